@@ -6,3 +6,5 @@ pub mod Invariant
 pub mod Nesting
 pub mod Agreement
 pub mod Soundness
+pub mod Performed
+pub mod Kept
