@@ -10,17 +10,17 @@ use lib.Dec.{T, eqb→eq, ltb→lt}
 use lib.ListN.{length, getD, replicate, length-replicate}
 use Rattle.model.specs.Searches.{upTo, same}
 use Rattle.model.specs.Plan.{Plan, threads, base}
-use Rattle.model.specs.Records.{Call, Report, Switch, Record, call, report, allowedCall, allowed}
-use Rattle.model.specs.State.{Condition, dormant, ready, asleep, waiting, Hold, State, start, condition, switchedTo, latestSwitch, lastReported, isHold, owe}
+use Rattle.model.specs.Records.{Call, Report, Record, call, report, allowedCall, allowed}
+use Rattle.model.specs.State.{Condition, dormant, ready, asleep, waiting, Hold, State, start, condition, switchedTo, latestSwitch, lastReported, isHold}
 use Rattle.model.specs.Priorities.{greatestHold, current, chosen}
-use Rattle.model.specs.Calls.{sleepsUntil, sleepers, tick, switch}
+use Rattle.model.specs.Calls.{sleepsUntil, sleepers, tick}
 use Rattle.model.specs.Runs.{moved, step}
 use Rattle.model.proofs.Tests.{split, is-true, is-false, same-eq}
 use Rattle.model.proofs.Searches.{filtered, in-filter, pairwise-filter, upTo-at, in-upTo, upTo-distinct}
 use Rattle.model.proofs.Invariant.{tag, SoundState, Invariant}
 use Rattle.model.proofs.Nesting.{chosen-is}
 use Rattle.model.proofs.Soundness.{Bar, Resting, leaves, yields, loses, gains, ends, inherits, arrive-all}
-use Rattle.model.proofs.Performed.{Caller, given, Performed, created, delayed, kept, yielded, ended, won, lost, freed, passed, refused, ticked, Moved, byCall, byReport, moves}
+use Rattle.model.proofs.Performed.{Caller, given, Performed, created, delayed, kept, yielded, ended, won, lost, freed, passed, refused, ticked, switchDue, Moved, byCall, byReport, moves}
 
 -- who sleeps until this tick number
 
@@ -74,17 +74,16 @@ latestSwitch-append w [] b = refl
 latestSwitch-append w (d ∷ a) b = latestSwitch-append (switchedTo w d) a b
 
 -- after each call the thread last reported is the chosen one
-switch-shows : (p : Plan) (st : State) → SoundState p st → Invariant p (switch p st)
-unfolding switch chosen current greatestHold
-switch-shows p st c = go (split (same (lastReported st) (chosen p st)))
+switch-shows : (p : Plan) (st : State) → latestSwitch (lastReported st) (switchDue p st) ≡ chosen p st
+switch-shows p st = go (split (same (lastReported st) (chosen p st)))
   where
-    go : T (same (lastReported st) (chosen p st)) ⊎ T (not (same (lastReported st) (chosen p st))) → Invariant p (switch p st)
-    go (inl t) = rw (is-true (same (lastReported st) (chosen p st)) t) (record { sound = c; shown = same-eq (lastReported st) (chosen p st) t })
-    go (inr t) = rw (is-false (same (lastReported st) (chosen p st)) t) (record { sound = c; shown = latestSwitch-append (st .reported) (st .due) (Switch (chosen p st) ∷ []) })
+    go : T (same (lastReported st) (chosen p st)) ⊎ T (not (same (lastReported st) (chosen p st))) → latestSwitch (lastReported st) (switchDue p st) ≡ chosen p st
+    go (inl t) = rw (is-true (same (lastReported st) (chosen p st)) t) (same-eq (lastReported st) (chosen p st) t)
+    go (inr t) = rw (is-false (same (lastReported st) (chosen p st)) t)
 
 pub moved-keeps : (p : Plan) (st : State) → Invariant p st → {r : Record} {st' : State} → T (allowed p r) → Moved p st r st' → Invariant p st'
 unfolding chosen current greatestHold
-moved-keeps p st v a (byCall mid q m) = switch-shows p mid (performed-sound p st (v .sound) a m)
+moved-keeps p st v a (byCall mid q m) = record { sound = performed-sound p st (v .sound) a m; shown = latestSwitch-append (mid .reported) (mid .due) (switchDue p mid) ∙ switch-shows p mid }
 moved-keeps p st v a (byReport {r = r} ds q) = record { sound = v .sound; shown = ap (latestSwitch (st .reported)) (sym q) ∙ v .shown }
 
 -- every record that moves the machine keeps the invariant

@@ -8,3 +8,6 @@ pub mod Agreement
 pub mod Soundness
 pub mod Performed
 pub mod Kept
+pub mod Turns
+pub mod Holdings
+pub mod Dues

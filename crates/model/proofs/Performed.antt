@@ -2,7 +2,7 @@
 use mathlib.Core.Path.{_≡_, refl, ap, sym, subst, _∙_}
 use mathlib.Core.Logic.{_⊎_, inl, inr, _≢_}
 use mathlib.Core.Bool.{Bool, true, false, cond, not}
-use mathlib.Core.List.{List, [], _∷_, tail, List·Memᴰ as Mem}
+use mathlib.Core.List.{List, [], _∷_, _++_, tail, append-nil, List·Memᴰ as Mem}
 use mathlib.Core.Option.{Option, none, some, Option·none-ne-some, Option·some-ne-none}
 use Prim.Native.Nat.{ℕ, _+_, _≤_, _<_}
 use native.Mathlib.Omega.{arith}
@@ -10,7 +10,7 @@ use lib.Dec.{T, ltb, eqb, ltb→lt, nltb→le, eqb→eq, T-not}
 use Rattle.model.specs.Searches.{_▷_, all, any, filter, firstGreatest, isEmpty, same}
 use Rattle.model.specs.Plan.{Plan, base, mayTake}
 use Rattle.model.specs.Records.{Call, Create, Delay, Relinquish, End, Take, Give, Tick, Report, Ready, Switch, Won, Lost, Yield, Record, call, report, reportKind, named, isTick}
-use Rattle.model.specs.State.{Condition, dormant, ready, asleep, waiting, Hold, State, condition, switchedTo, setReported, setDue, becomes, leaveQueue, joinQueue, arrive, joinWaits, leaveWaits, isHold, beginHold, endHold, owe}
+use Rattle.model.specs.State.{Condition, dormant, ready, asleep, waiting, Hold, State, condition, lastReported, switchedTo, setReported, setDue, becomes, leaveQueue, joinQueue, arrive, joinWaits, leaveWaits, isHold, beginHold, endHold, owe}
 use Rattle.model.specs.Priorities.{heldCeiling, chosen}
 use Rattle.model.specs.Calls.{create, tick, delay, rivalled, relinquish, end, aboveAll, heldByOthers, take, wanted, heir, handOver, give, switch, byCaller, perform}
 use Rattle.model.specs.Rules.{Question, firstNo, isSomebody, askCaller, isDormant, holdsNone, holdsNot, lastTaken, askFirst, questions, broken}
@@ -50,9 +50,21 @@ pub data Performed (p : Plan) (st : State) : Call → State → Type 0 where
   refused : {s : ℕ} (x w : ℕ) → Caller p st x → lastTaken (st .holds) x ≡ some s → IsGreatest (base p) (st .waits) w → Bar p (given x s (st .holds)) w → Performed p st (Give s) (st ▷ endHold s x ▷ owe (Lost w ∷ []))
   ticked : Performed p st Tick (tick st)
 
+-- the Switch that is due after a call, if any
+abbrev pub switchDue : Plan → State → List Report
+switchDue p st = cond (same (lastReported st) (chosen p st)) [] (Switch (chosen p st) ∷ [])
+
+switch-owes : (p : Plan) (st : State) → st ▷ owe (switchDue p st) ≡ switch p st
+unfolding switch
+switch-owes p st = go (same (lastReported st) (chosen p st))
+  where
+    go : (b : Bool) → st ▷ owe (cond b [] (Switch (chosen p st) ∷ [])) ≡ cond b st (st ▷ owe (Switch (chosen p st) ∷ []))
+    go true = ap (λ (ds : List Report). setDue ds st) (append-nil (st .due))
+    go false = refl
+
 -- what a record did. Nothing is due before a call; of a Tick no use is made of that, so that it need not hold.
 pub data Moved (p : Plan) (st : State) : Record → State → Type 0 where
-  byCall : {k : Call} (mid : State) → T (isTick k) ⊎ (st .due ≡ []) → Performed p st k mid → Moved p st (call k) (switch p mid)
+  byCall : {k : Call} (mid : State) → T (isTick k) ⊎ (st .due ≡ []) → Performed p st k mid → Moved p st (call k) (mid ▷ owe (switchDue p mid))
   byReport : {r : Report} (ds : List Report) → st .due ≡ r ∷ ds → Moved p st (report r) (st ▷ setReported (switchedTo (st .reported) r) ▷ setDue ds)
 
 -- the questions, as facts
@@ -220,7 +232,7 @@ module _ (p : Plan) (st : State) (c : SoundState p st) where
   moves r st' e = go (broken p st r) refl e
     where
       of : (r : Record) → AllYes (questions p st r) → Moved p st r (effect p r st)
-      of (call k) a = byCall (perform p k st) (inr (idle k a)) (performed k a)
+      of (call k) a = subst (λ (s : State). Moved p st (call k) s) (switch-owes p (perform p k st)) (byCall (perform p k st) (inr (idle k a)) (performed k a))
       of (report r) a = byReport (tail (st .due)) (first-due r (st .due) refl a)
 
       go : (o : Option ℕ) → broken p st r ≡ o → outcome o (effect p r st) ≡ moved st' → Moved p st r st'

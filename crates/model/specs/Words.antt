@@ -12,12 +12,12 @@ use Rattle.model.specs.Records.{Call, Create, Delay, Relinquish, End, Ta
 use Rattle.model.specs.State.{State, start, switchedTo}
 use Rattle.model.specs.Runs.{effect}
 
-abbrev switchOf : Option Record → Option ℕ → Option ℕ
+abbrev pub switchOf : Option Record → Option ℕ → Option ℕ
 switchOf none w = w
 switchOf (some (call k)) w = w
 switchOf (some (report r)) w = switchedTo w r
 
-abbrev tickOf : Option Record → ℕ
+abbrev pub tickOf : Option Record → ℕ
 tickOf none = 0
 tickOf (some (call (Create t))) = 0
 tickOf (some (call (Delay n))) = 0
@@ -136,7 +136,7 @@ module _ (rs : List Record) where
   abbrev pub Blocks : Plan → (l h k : ℕ) → Type 0
   Blocks p l h k = (s : ℕ) × Holds l s k × (base p h ≤ ceiling p s)
 
-abbrev advance : Plan → Option Record → State → State
+abbrev pub advance : Plan → Option Record → State → State
 advance p none st = st
 advance p (some r) st = effect p r st
 
