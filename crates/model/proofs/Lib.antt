@@ -11,3 +11,9 @@ pub mod Kept
 pub mod Turns
 pub mod Holdings
 pub mod Dues
+pub mod Trace
+pub mod Belonging
+pub mod ToRecords
+pub mod ToMachine
+pub mod Blocking
+pub mod Activity

@@ -13,6 +13,7 @@ use Rattle.model.specs.Searches.{_▷_}
 use Rattle.model.specs.Plan.{Plan}
 use Rattle.model.specs.Records.{Call, Create, Delay, End, Take, Give, Tick, Report, Ready, Won, Lost, Record, call, isTick}
 use Rattle.model.specs.State.{Condition, dormant, ready, asleep, waiting, hold, State, condition, allReady, arrive, owe}
+use Rattle.model.specs.Priorities.{chosen}
 use Rattle.model.specs.Calls.{sleepsUntil, sleepers, tick}
 use Rattle.model.proofs.Tests.{split, equal?, some-one}
 use Rattle.model.proofs.Searches.{IsGreatest}
@@ -123,3 +124,21 @@ module _ (p : Plan) (st : State) (c : SoundState p st) where
   pub turn : {r : Record} {st' : State} → Moved p st r st' → (t : ℕ) → Turn p st r st' t
   turn (byCall mid q m) t = switched-turn (switchDue p mid) (call-turn m t)
   turn (byReport ds q) t = same refl
+
+  -- what Create, Delay and Tick do to the thread that they are about
+
+  pub create-readies : {t : ℕ} {st' : State} → Moved p st (call (Create t)) st' → t < length (st .conditions) → condition st' t ≡ ready
+  create-readies {t} (byCall mid q (created d)) h = set-own (st .conditions) t t ready h refl
+
+  pub delay-puts-to-sleep : {n : ℕ} {st' : State} → Moved p st (call (Delay n)) st' → (x : ℕ) → Caller p st x → condition st' x ≡ asleep (st .tickNumber + n + 1)
+  delay-puts-to-sleep {n} (byCall mid q (delayed y f free)) x e = set-own (st .conditions) y x (asleep (st .tickNumber + n + 1)) (caller-known f) (some-one (chosen p st) x y e f)
+
+  pub tick-wakes : {st' : State} → Moved p st (call Tick) st' → (t : ℕ) → condition st t ≡ asleep (suc (st .tickNumber)) → condition st' t ≡ ready
+  unfolding tick
+  tick-wakes (byCall mid q ticked) t e = all-ready-own (sleepers n st) (st .conditions) t h (in-sleepers n st t h (subst (λ (k : Condition). T (sleepsUntil n k)) (sym e) (eqb-refl n)))
+    where
+      n : ℕ
+      n = suc (st .tickNumber)
+
+      h : t < length (st .conditions)
+      h = inside (st .conditions) t (asleep n) e (omega arith)
