@@ -13,11 +13,11 @@ use Rattle.model.specs.Records.{Call, Create, Delay, End, Take, Give, Ti
 use Rattle.model.specs.State.{Condition, dormant, ready, asleep, waiting, State, condition}
 use Rattle.model.specs.Words.{Is, ticks, CallOf, Calls, Starts, Wakes, Active}
 use Rattle.model.proofs.Tests.{equal?}
-use Rattle.model.proofs.Invariant.{tag, Invariant}
+use Rattle.model.proofs.Invariant.{tag, SoundState, Invariant}
 use Rattle.model.proofs.Nesting.{Rules}
 use Rattle.model.proofs.Performed.{Caller}
-use Rattle.model.proofs.Turns.{Turn, same, starts, wakes, sleeps, stops, loses, inherits, caller-ready, create-readies, delay-puts-to-sleep, tick-wakes}
-use Rattle.model.proofs.Holdings.{Held, before, byTake, byGive, hold-from}
+use Rattle.model.proofs.Turns.{Turn, same, starts, wakes, sleeps, stops, loses, inherits, turn, caller-ready, create-readies, delay-puts-to-sleep, tick-wakes}
+use Rattle.model.proofs.Holdings.{callNumber, Held, before, byTake, byGive, hold-from}
 use Rattle.model.proofs.Trace.{look, below, Trace, invariant, tick-number, caller-chosen, chosen-caller}
 use Rattle.model.proofs.ToRecords.{turn-at}
 use Rattle.model.proofs.Blocking.{Awake, caller-blocks, calls-chosen}
@@ -182,3 +182,22 @@ module _ (p : Plan) (rs : List Record) (tr : Trace p rs) where
       -- a lower thread that calls at c has not given way at any j in between
       pub no-call-after : Calls rs l c → (j : ℕ) → i < j → j ≤ c → GivenWay j → ⊥
       no-call-after k j o u q = silent c (a .before) (omega arith) (given-way-through j o q c u (omega arith)) (calls-chosen p rs tr l c k)
+
+  -- a thread that gives does not wait after it
+  pub giver-not-waiting : (l g s : ℕ) → CallOf rs l g (Give s) → (z : ℕ) → condition (tr .at (suc g)) l ≡ waiting z → ⊥
+  giver-not-waiting l g s b z e = go (turn p (tr .at g) c (tr .moves g (call (Give s)) (b .made)) l)
+    where
+      c : SoundState p (tr .at g)
+      c = sound-at g (omega (arith, below rs g (call (Give s)) (b .made))) .sound
+
+      was : condition (tr .at g) l ≡ ready
+      was = caller-ready p (tr .at g) c (caller-chosen p rs tr g l (Give s) b)
+
+      go : Turn p (tr .at g) (call (Give s)) (tr .at (suc g)) l → ⊥
+      go (same f) = omega (arith, ap tag (sym was ∙ sym f ∙ e))
+      go (starts q d f) = omega (arith, ap tag (sym f ∙ e))
+      go (wakes q d f) = omega (arith, ap tag (sym f ∙ e))
+      go (sleeps m q d f) = omega (arith, ap tag (sym f ∙ e))
+      go (stops q d f) = omega (arith, ap tag (sym f ∙ e))
+      go (loses y rest q d f j) = omega (arith, ap callNumber q)
+      go (inherits y x rest q d f m j) = omega (arith, ap tag (sym f ∙ e))

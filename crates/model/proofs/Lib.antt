@@ -8,6 +8,8 @@ pub mod Agreement
 pub mod Soundness
 pub mod Performed
 pub mod Kept
+pub mod Reached
+pub mod Prefixes
 pub mod Turns
 pub mod Holdings
 pub mod Dues
@@ -17,3 +19,5 @@ pub mod ToRecords
 pub mod ToMachine
 pub mod Blocking
 pub mod Activity
+pub mod Theorem
+pub mod Examples

@@ -54,7 +54,7 @@ pub data Performed (p : Plan) (st : State) : Call → State → Type 0 where
 abbrev pub switchDue : Plan → State → List Report
 switchDue p st = cond (same (lastReported st) (chosen p st)) [] (Switch (chosen p st) ∷ [])
 
-switch-owes : (p : Plan) (st : State) → st ▷ owe (switchDue p st) ≡ switch p st
+pub switch-owes : (p : Plan) (st : State) → st ▷ owe (switchDue p st) ≡ switch p st
 unfolding switch
 switch-owes p st = go (same (lastReported st) (chosen p st))
   where
@@ -134,6 +134,34 @@ isMove (broke n) = 0
 pub not-broke : (n : ℕ) (st : State) → broke n ≡ moved st → ⊥
 not-broke n st e = omega (arith, ap isMove e)
 
+first-due : (due : List Report) (r : Report) → T (askFirst due (λ d. eqb (reportKind d) (reportKind r))) → T (askFirst due (λ d. same (named d) (named r))) → due ≡ r ∷ tail due
+first-due [] r k w = absurd k
+first-due (d ∷ ds) r k w = ap {B = List Report} (λ x. x ∷ ds) (same-report d r k w)
+
+module _ (p : Plan) (st : State) where
+  -- a record that moves the machine has the answer Yes to all that is asked of it, and moves it to its effect
+  pub answered : (r : Record) (st' : State) → step p st r ≡ moved st' → AllYes (questions p st r) × (effect p r st ≡ st')
+  unfolding step broken
+  answered r st' e = go (broken p st r) refl e
+    where
+      go : (o : Option ℕ) → broken p st r ≡ o → outcome o (effect p r st) ≡ moved st' → AllYes (questions p st r) × (effect p r st ≡ st')
+      go none q i = (all-yes (questions p st r) q, state-eq (effect p r st) st' i)
+      go (some n) q i = absurd (not-broke n st' i)
+
+  -- a call comes with nothing due
+  pub idle : (k : Call) → AllYes (questions p st (call k)) → st .due ≡ []
+  idle (Create t) a = empty-is (st .due) (a .0)
+  idle (Delay n) a = empty-is (st .due) (a .0)
+  idle Relinquish a = empty-is (st .due) (a .0)
+  idle End a = empty-is (st .due) (a .0)
+  idle (Take s) a = empty-is (st .due) (a .0)
+  idle (Give s) a = empty-is (st .due) (a .0)
+  idle Tick a = empty-is (st .due) (a .0)
+
+  -- a report is the first due
+  pub reports-first : (r : Report) → AllYes (questions p st (report r)) → st .due ≡ r ∷ tail (st .due)
+  reports-first r a = first-due (st .due) r (a .1 .0) (a .1 .1 .0)
+
 module _ (p : Plan) (st : State) (c : SoundState p st) where
   above-others : (x : ℕ) → T (aboveAll p x (heldByOthers x (st .holds))) → (h : Hold) → Mem h (st .holds) → (h .thread ≡ x) ⊎ (heldCeiling p h < base p x)
   above-others x t h m = go (equal? (h .thread) x)
@@ -189,10 +217,6 @@ module _ (p : Plan) (st : State) (c : SoundState p st) where
   asked : (x : ℕ) (f : ℕ → Bool) → Caller p st x → T (askCaller (chosen p st) f) → T (f x)
   asked x f e t = subst (λ (o : Option ℕ). T (askCaller o f)) e t
 
-  answers : (r : Record) → broken p st r ≡ none → AllYes (questions p st r)
-  unfolding broken
-  answers r e = all-yes (questions p st r) e
-
   pub performed : (k : Call) → AllYes (questions p st (call k)) → Performed p st k (perform p k st)
   unfolding create delay end
   performed (Create t) a = created (dormant-is (condition st t) (a .1 .0))
@@ -211,30 +235,9 @@ module _ (p : Plan) (st : State) (c : SoundState p st) where
       rw (x .1) (gave (x .0) s (x .1) (same-eq (lastTaken (st .holds) (x .0)) (some s) (asked (x .0) (λ y. same (lastTaken (st .holds) y) (some s)) (x .1) (a .1 .1 .0))))
   performed Tick a = ticked
 
-  idle : (k : Call) → AllYes (questions p st (call k)) → st .due ≡ []
-  idle (Create t) a = empty-is (st .due) (a .0)
-  idle (Delay n) a = empty-is (st .due) (a .0)
-  idle Relinquish a = empty-is (st .due) (a .0)
-  idle End a = empty-is (st .due) (a .0)
-  idle (Take s) a = empty-is (st .due) (a .0)
-  idle (Give s) a = empty-is (st .due) (a .0)
-  idle Tick a = empty-is (st .due) (a .0)
-
-  first-due : (r : Report) (ds : List Report) → st .due ≡ ds → AllYes (questions p st (report r)) → st .due ≡ r ∷ tail (st .due)
-  first-due r ds q a = go ds q
-    where
-      go : (ds : List Report) → st .due ≡ ds → st .due ≡ r ∷ tail (st .due)
-      go [] q = absurd (rw q at (a .1 .0))
-      go (d ∷ ds) q = q ∙ ap {B = List Report} (λ x. x ∷ ds) (same-report d r (rw q at (a .1 .0)) (rw q at (a .1 .1 .0))) ∙ ap {B = List Report} (λ l. r ∷ tail l) (sym q)
-
   pub moves : (r : Record) (st' : State) → step p st r ≡ moved st' → Moved p st r st'
-  unfolding step
-  moves r st' e = go (broken p st r) refl e
+  moves r st' e = let q = answered p st r st' e in subst (λ (s : State). Moved p st r s) (q .1) (of r (q .0))
     where
       of : (r : Record) → AllYes (questions p st r) → Moved p st r (effect p r st)
-      of (call k) a = subst (λ (s : State). Moved p st (call k) s) (switch-owes p (perform p k st)) (byCall (perform p k st) (inr (idle k a)) (performed k a))
-      of (report r) a = byReport (tail (st .due)) (first-due r (st .due) refl a)
-
-      go : (o : Option ℕ) → broken p st r ≡ o → outcome o (effect p r st) ≡ moved st' → Moved p st r st'
-      go none q i = subst (λ (s : State). Moved p st r s) (state-eq (effect p r st) st' i) (of r (answers r q))
-      go (some n) q i = absurd (not-broke n st' i)
+      of (call k) a = subst (λ (s : State). Moved p st (call k) s) (switch-owes p (perform p k st)) (byCall (perform p k st) (inr (idle p st k a)) (performed k a))
+      of (report r) a = byReport (tail (st .due)) (reports-first p st r a)
