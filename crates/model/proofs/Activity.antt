@@ -1,5 +1,5 @@
 -- From its start or wake on an active thread is awake, and a lower thread that has given way to it makes no further call.
-use mathlib.Core.Path.{_≡_, refl, ap, sym, subst, _∙_}
+use mathlib.Core.Path.{_≡_, ap, sym, subst, _∙_}
 use mathlib.Core.Logic.{_⊎_, inl, inr, _≢_}
 use mathlib.Core.Bool.{not}
 use mathlib.Core.List.{List}
@@ -9,8 +9,8 @@ use native.Mathlib.Omega.{arith}
 use lib.Dec.{T, ltb→lt}
 use lib.ListN.{length}
 use Rattle.model.specs.Plan.{Plan, threads, base}
-use Rattle.model.specs.Records.{Call, Create, Delay, End, Take, Give, Tick, Record, call, isTick}
-use Rattle.model.specs.State.{Condition, dormant, ready, asleep, waiting, State, condition}
+use Rattle.model.specs.Records.{Call, Create, Delay, End, Give, Tick, Record, call, isTick}
+use Rattle.model.specs.State.{Condition, dormant, ready, asleep, waiting, condition}
 use Rattle.model.specs.Words.{Is, ticks, CallOf, Calls, Starts, Wakes, Active}
 use Rattle.model.proofs.Tests.{equal?}
 use Rattle.model.proofs.Invariant.{tag, SoundState, Invariant}

@@ -1,7 +1,7 @@
 -- The Won or Lost that belongs to a Take or Give is the first report that it made due; and what is due gets written.
-use mathlib.Core.Path.{_≡_, refl, ap, sym, subst, _∙_}
+use mathlib.Core.Path.{_≡_, ap, sym, subst, _∙_}
 use mathlib.Core.Logic.{_⊎_, inl, inr, _≢_}
-use mathlib.Core.Bool.{Bool, true, false, not}
+use mathlib.Core.Bool.{not}
 use mathlib.Core.List.{List, [], _∷_, _++_, cons≢nil, head-eq-of-cons-eq, tail-eq-of-cons-eq}
 use mathlib.Core.Option.{Option, some}
 use Prim.Native.Nat.{ℕ, zero, suc, _+_, _-_, _≤_, _<_}
@@ -11,11 +11,9 @@ use lib.ListN.{length}
 use Rattle.model.specs.Searches.{all}
 use Rattle.model.specs.Plan.{Plan}
 use Rattle.model.specs.Records.{Call, Take, Give, Report, Won, Lost, Record, call, report, reportKind, isTick}
-use Rattle.model.specs.State.{State}
 use Rattle.model.specs.Words.{Is, TakeOrGive, Belongs}
 use Rattle.model.proofs.Tests.{split, and-left, and-right, equal?}
 use Rattle.model.proofs.Searches.{all-append}
-use Rattle.model.proofs.Invariant.{Invariant}
 use Rattle.model.proofs.Holdings.{callOf}
 use Rattle.model.proofs.Dues.{plain, Grows, behind, afresh, given, grows}
 use Rattle.model.proofs.Trace.{look, below, same-record, Trace, invariant, idle-take-or-give, first-is-due}

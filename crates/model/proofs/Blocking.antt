@@ -4,16 +4,16 @@ use mathlib.Core.Logic.{_⊎_, inl, inr, _≢_}
 use mathlib.Core.Bool.{Bool, not, _&&_}
 use mathlib.Core.List.{List, List·Memᴰ as Mem}
 use mathlib.Core.Option.{Option, some}
-use Prim.Native.Nat.{ℕ, zero, suc, _+_, _≤_, _<_}
+use Prim.Native.Nat.{ℕ, zero, suc, _≤_, _<_}
 use native.Mathlib.Omega.{arith}
 use lib.Dec.{T, eqb, leb, leb→le, le→leb, eqb→eq, T-not}
 use lib.ListN.{length}
 use Rattle.model.specs.Searches.{any}
 use Rattle.model.specs.Plan.{Plan, base}
-use Rattle.model.specs.Records.{Call, Take, Give, Record, call}
+use Rattle.model.specs.Records.{Record, call}
 use Rattle.model.specs.State.{Condition, dormant, ready, asleep, waiting, Hold, State, condition}
 use Rattle.model.specs.Priorities.{heldCeiling}
-use Rattle.model.specs.Words.{Is, CallOf, Calls, Holds, InWait, Blocks}
+use Rattle.model.specs.Words.{Is, Calls, Holds, Blocks}
 use Rattle.model.specs.Promise.{LowerInWait}
 use Rattle.model.proofs.Tests.{split, equal?, and-left, and-right, and-both, eq-test}
 use Rattle.model.proofs.Searches.{any-at, any-finds}

@@ -1,7 +1,7 @@
 -- What one record does to the reports due, to the tick number and to the thread reported.
-use mathlib.Core.Path.{_≡_, refl, ap, sym, subst, _∙_}
+use mathlib.Core.Path.{_≡_, refl, ap, subst, _∙_}
 use mathlib.Core.Logic.{_⊎_, inl, inr}
-use mathlib.Core.Bool.{Bool, true, false, cond, not}
+use mathlib.Core.Bool.{Bool, true, false, cond}
 use mathlib.Core.List.{List, [], _∷_, _++_, map, append-assoc, List·Memᴰ as Mem, List·Memᴰ·tail as there, List·Memᴰ·cases-cons as cases-cons, List·Memᴰ·append-cases as append-cases}
 use mathlib.Core.Option.{some}
 use Prim.Native.Nat.{ℕ, suc, _+_}
@@ -15,9 +15,9 @@ use Rattle.model.specs.Priorities.{chosen}
 use Rattle.model.specs.Calls.{sleepers, tick}
 use Rattle.model.specs.Words.{switchOf, tickOf}
 use Rattle.model.proofs.Searches.{all-at, all-append}
-use Rattle.model.proofs.Invariant.{tag, SoundState}
+use Rattle.model.proofs.Invariant.{SoundState}
 use Rattle.model.proofs.Agreement.{inside, set-own}
-use Rattle.model.proofs.Performed.{Performed, created, delayed, kept, yielded, ended, won, lost, freed, passed, refused, ticked, switchDue, Moved, byCall, byReport}
+use Rattle.model.proofs.Performed.{created, delayed, kept, yielded, ended, won, lost, freed, passed, refused, ticked, switchDue, Moved, byCall, byReport}
 use Rattle.model.proofs.Turns as turns
 use Rattle.model.proofs.Turns.{Turn, caller-ready, turn}
 use Rattle.model.proofs.Holdings.{callNumber, call-numbered, callOf, nothing-due}

@@ -1,7 +1,7 @@
 -- Where holds come from and how they end: what one record does to them.
 use mathlib.Core.Path.{_≡_, refl, ap, sym, _∙_}
 use mathlib.Core.Logic.{_⊎_, inl, inr, _≢_}
-use mathlib.Core.Bool.{not, _&&_}
+use mathlib.Core.Bool.{not}
 use mathlib.Core.List.{List, [], _∷_, _++_, List·Memᴰ as Mem, List·Memᴰ·head as here, List·Memᴰ·tail as there, List·Memᴰ·cases-cons as cases-cons}
 use mathlib.Core.Option.{Option, some}
 use Prim.Native.Nat.{ℕ, _≤_, _<_}
@@ -9,14 +9,14 @@ use native.Mathlib.Omega.{arith}
 use lib.Dec.{T, eqb, eqb→eq, T-not}
 use Rattle.model.specs.Plan.{Plan, base}
 use Rattle.model.specs.Records.{Call, Create, Delay, Relinquish, End, Take, Give, Tick, Report, Ready, Won, Lost, Record, call, report, callKind, isTick}
-use Rattle.model.specs.State.{Condition, waiting, Hold, hold, isHold, State, condition}
+use Rattle.model.specs.State.{waiting, Hold, hold, isHold, State, condition}
 use Rattle.model.specs.Priorities.{chosen}
 use Rattle.model.specs.Calls.{tick}
 use Rattle.model.proofs.Tests.{split, and-left, and-right, and-both, eq-test, some-one}
-use Rattle.model.proofs.Searches.{filtered, in-filter, IsGreatest}
+use Rattle.model.proofs.Searches.{filtered, in-filter}
 use Rattle.model.proofs.Invariant.{SoundState}
 use Rattle.model.proofs.Agreement.{inside, set-own}
-use Rattle.model.proofs.Performed.{Caller, given, Performed, created, delayed, kept, yielded, ended, won, lost, freed, passed, refused, ticked, switchDue, Moved, byCall, byReport}
+use Rattle.model.proofs.Performed.{Caller, given, created, delayed, kept, yielded, ended, won, lost, freed, passed, refused, ticked, switchDue, Moved, byCall, byReport}
 use Rattle.model.proofs.Turns.{caller-ready}
 
 -- records told apart by a number: a call by its kind, a report by 0

@@ -1,16 +1,16 @@
 -- The start has the invariant, and every record that moves the machine keeps it.
 use mathlib.Core.Path.{_≡_, refl, ap, sym, subst, _∙_}
 use mathlib.Core.Logic.{_⊎_, inl, inr}
-use mathlib.Core.Bool.{Bool, not}
+use mathlib.Core.Bool.{not}
 use mathlib.Core.List.{List, [], _∷_, _++_, List·Memᴰ as Mem, List·Memᴰ·eq-of-singleton as single}
-use mathlib.Core.Option.{Option, none, some}
-use Prim.Native.Nat.{ℕ, zero, suc, _+_, _≤_, _<_}
+use mathlib.Core.Option.{Option}
+use Prim.Native.Nat.{ℕ, zero, suc, _+_, _<_}
 use native.Mathlib.Omega.{arith}
 use lib.Dec.{T, eqb→eq, ltb→lt}
 use lib.ListN.{length, getD, replicate, length-replicate}
 use Rattle.model.specs.Searches.{upTo, same}
-use Rattle.model.specs.Plan.{Plan, threads, base}
-use Rattle.model.specs.Records.{Call, Report, Record, call, report, allowedCall, allowed}
+use Rattle.model.specs.Plan.{Plan, threads}
+use Rattle.model.specs.Records.{Call, Report, Record, allowedCall, allowed}
 use Rattle.model.specs.State.{Condition, dormant, ready, asleep, waiting, Hold, State, start, condition, switchedTo, latestSwitch, lastReported, isHold}
 use Rattle.model.specs.Priorities.{greatestHold, current, chosen}
 use Rattle.model.specs.Calls.{sleepsUntil, sleepers, tick}
@@ -19,8 +19,8 @@ use Rattle.model.proofs.Tests.{split, is-true, is-false, same-eq}
 use Rattle.model.proofs.Searches.{filtered, in-filter, pairwise-filter, upTo-at, in-upTo, upTo-distinct}
 use Rattle.model.proofs.Invariant.{tag, SoundState, Invariant}
 use Rattle.model.proofs.Nesting.{chosen-is}
-use Rattle.model.proofs.Soundness.{Bar, Resting, leaves, yields, loses, gains, ends, inherits, arrive-all}
-use Rattle.model.proofs.Performed.{Caller, given, Performed, created, delayed, kept, yielded, ended, won, lost, freed, passed, refused, ticked, switchDue, Moved, byCall, byReport, moves}
+use Rattle.model.proofs.Soundness.{Resting, leaves, yields, loses, gains, ends, inherits, arrive-all}
+use Rattle.model.proofs.Performed.{Caller, Performed, created, delayed, kept, yielded, ended, won, lost, freed, passed, refused, ticked, switchDue, Moved, byCall, byReport, moves}
 
 -- who sleeps until this tick number
 

@@ -2,17 +2,17 @@
 use mathlib.Core.Path.{_≡_, refl, ap, sym, subst, _∙_}
 use mathlib.Core.Logic.{_⊎_, inl, inr, _≢_}
 use mathlib.Core.Bool.{Bool, true, false, cond, not}
-use mathlib.Core.List.{List, [], _∷_, _++_, tail, append-nil, List·Memᴰ as Mem}
-use mathlib.Core.Option.{Option, none, some, Option·none-ne-some, Option·some-ne-none}
-use Prim.Native.Nat.{ℕ, _+_, _≤_, _<_}
+use mathlib.Core.List.{List, [], _∷_, tail, append-nil, List·Memᴰ as Mem}
+use mathlib.Core.Option.{Option, none, some, Option·some-ne-none}
+use Prim.Native.Nat.{ℕ, _+_, _<_}
 use native.Mathlib.Omega.{arith}
 use lib.Dec.{T, ltb, eqb, ltb→lt, nltb→le, eqb→eq, T-not}
-use Rattle.model.specs.Searches.{_▷_, all, any, filter, firstGreatest, isEmpty, same}
+use Rattle.model.specs.Searches.{_▷_, filter, isEmpty, same}
 use Rattle.model.specs.Plan.{Plan, base, mayTake}
 use Rattle.model.specs.Records.{Call, Create, Delay, Relinquish, End, Take, Give, Tick, Report, Ready, Switch, Won, Lost, Yield, Record, call, report, reportKind, named, isTick}
 use Rattle.model.specs.State.{Condition, dormant, ready, asleep, waiting, Hold, State, condition, lastReported, switchedTo, setReported, setDue, becomes, leaveQueue, joinQueue, arrive, joinWaits, leaveWaits, isHold, beginHold, endHold, owe}
 use Rattle.model.specs.Priorities.{heldCeiling, chosen}
-use Rattle.model.specs.Calls.{create, tick, delay, rivalled, relinquish, end, aboveAll, heldByOthers, take, wanted, heir, handOver, give, switch, byCaller, perform}
+use Rattle.model.specs.Calls.{create, tick, delay, rivalled, relinquish, end, aboveAll, heldByOthers, take, wanted, heir, handOver, give, switch, perform}
 use Rattle.model.specs.Rules.{Question, firstNo, isSomebody, askCaller, isDormant, holdsNone, holdsNot, lastTaken, askFirst, questions, broken}
 use Rattle.model.specs.Runs.{effect, Outcome, moved, broke, outcome, step}
 use Rattle.model.proofs.Tests.{split, is-true, is-false, and-both, eq-test, ne-test, test-ne, equal?, same-eq}

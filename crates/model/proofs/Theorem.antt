@@ -13,20 +13,19 @@ use Rattle.model.specs.Records.{Take, Give, Record, call, allowed}
 use Rattle.model.specs.State.{waiting, Hold, hold, condition}
 use Rattle.model.specs.Priorities.{heldCeiling, chosen}
 use Rattle.model.specs.Runs.{breach, judge, Clean}
-use Rattle.model.specs.Words.{runner, CallOf, Calls, Holds, Waits, Blocks, after}
-use Rattle.model.specs.Promise.{NothingDue, LowerInWait, LowerInActive, Promise}
+use Rattle.model.specs.Words.{runner, CallOf, Holds, Waits, Blocks, after}
+use Rattle.model.specs.Promise.{LowerInWait, LowerInActive, Promise}
 use Rattle.model.proofs.Searches.{all-at}
 use Rattle.model.proofs.Invariant.{tag, Invariant}
 use Rattle.model.proofs.Nesting.{Rules, chosen-some}
 use Rattle.model.proofs.Performed.{moves}
-use Rattle.model.proofs.Turns.{caller-ready}
 use Rattle.model.proofs.Reached.{reached-invariant}
 use Rattle.model.proofs.Prefixes.{is-mem, is-below, clean-steps, clean-before-breach, clean-reached}
-use Rattle.model.proofs.Trace.{below, Trace, invariant, runner-chosen, caller-chosen}
+use Rattle.model.proofs.Trace.{below, Trace, invariant, runner-chosen}
 use Rattle.model.proofs.ToRecords.{waited-from, to-waits}
 use Rattle.model.proofs.ToMachine.{waits-at, holds-at}
 use Rattle.model.proofs.Blocking.{waiting?, blocks?, one-blocks, to-blocks, call-within, call-moment, lower-blocks}
-use Rattle.model.proofs.Activity.{GivenWay, no-call-after, giver-not-waiting}
+use Rattle.model.proofs.Activity.{no-call-after, giver-not-waiting}
 
 -- the run of a clean list
 trace : (p : Plan) (rs : List Record) → Clean p rs → Trace p rs

@@ -1,5 +1,5 @@
 -- From the records to the machine: a thread that waits or holds by the words does so in the machine.
-use mathlib.Core.Path.{_≡_, refl, ap, sym, subst, _∙_}
+use mathlib.Core.Path.{_≡_, ap, sym, subst, _∙_}
 use mathlib.Core.Logic.{_⊎_, inl, inr, _≢_}
 use mathlib.Core.List.{List, [], _∷_, _++_, cons≢nil, head-eq-of-cons-eq, List·Memᴰ as Mem}
 use mathlib.Core.Option.{Option, some}
@@ -8,11 +8,11 @@ use native.Mathlib.Omega.{arith}
 use lib.ListN.{length}
 use Rattle.model.specs.Plan.{Plan}
 use Rattle.model.specs.Records.{Take, Give, Report, Won, Lost, Record, call, reportKind}
-use Rattle.model.specs.State.{Condition, waiting, Hold, hold, State, condition}
+use Rattle.model.specs.State.{Condition, waiting, Hold, hold, condition}
 use Rattle.model.specs.Calls.{wanted}
-use Rattle.model.specs.Words.{Is, CallOf, IsWon, IsLost, Relieves, HoldsFrom, Holds, Loses, Waits, InWait}
+use Rattle.model.specs.Words.{Is, CallOf, IsWon, IsLost, Relieves, HoldsFrom, Holds, Loses, Waits}
 use Rattle.model.proofs.Tests.{equal?}
-use Rattle.model.proofs.Invariant.{tag, Invariant}
+use Rattle.model.proofs.Invariant.{tag}
 use Rattle.model.proofs.Performed.{Caller}
 use Rattle.model.proofs.Turns.{Turn, same, starts, wakes, sleeps, stops, loses, inherits, caller-ready}
 use Rattle.model.proofs.Holdings as holdings

@@ -1,8 +1,8 @@
 -- From the machine to the records: a thread that waits or holds in the machine does so by the words, once what is due is written.
 use mathlib.Core.Path.{_≡_, refl, ap, sym, subst, _∙_}
 use mathlib.Core.Logic.{_⊎_, inl, inr, _≢_}
-use mathlib.Core.Bool.{Bool, not}
-use mathlib.Core.List.{List, [], _∷_, _++_, List·Memᴰ as Mem}
+use mathlib.Core.Bool.{not}
+use mathlib.Core.List.{List, _∷_, _++_, List·Memᴰ as Mem}
 use mathlib.Core.Option.{Option, some}
 use Prim.Native.Nat.{ℕ, zero, suc, _≤_, _<_}
 use native.Mathlib.Omega.{arith}
@@ -10,11 +10,11 @@ use lib.Dec.{T, leb, leb→le, nleb→lt}
 use lib.ListN.{length}
 use Rattle.model.specs.Plan.{Plan}
 use Rattle.model.specs.Records.{Take, Give, Report, Won, Lost, Record, call, report}
-use Rattle.model.specs.State.{Condition, waiting, Hold, State, condition}
+use Rattle.model.specs.State.{Condition, waiting, Hold, condition}
 use Rattle.model.specs.Calls.{wanted}
 use Rattle.model.specs.Words.{Is, CallOf, Relieves, Holds, Loses, Waits}
 use Rattle.model.proofs.Tests.{split, equal?}
-use Rattle.model.proofs.Invariant.{tag, Invariant}
+use Rattle.model.proofs.Invariant.{tag}
 use Rattle.model.proofs.Turns.{Turn, same, starts, wakes, sleeps, stops, loses, inherits, turn}
 use Rattle.model.proofs.Holdings.{Held, before, byTake, byGive, hold-from}
 use Rattle.model.proofs.Trace.{look, below, same-record, not-report, Trace, invariant, idle-call, caller-chosen, chosen-caller, no-won-due, no-won-given, dormant-first}

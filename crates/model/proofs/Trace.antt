@@ -1,22 +1,22 @@
 -- A run of the machine record by record, and what the words about records say of its states.
-use mathlib.Core.Path.{_≡_, refl, ap, sym, subst, _∙_}
+use mathlib.Core.Path.{_≡_, refl, ap, sym, _∙_}
 use mathlib.Core.Logic.{_⊎_, inl, inr}
-use mathlib.Core.Bool.{Bool, true, false, not}
-use mathlib.Core.List.{List, [], _∷_, List·Memᴰ as Mem, List·Memᴰ·head as here}
-use mathlib.Core.Option.{Option, none, some, Option·none-ne-some, Option·some-injective}
+use mathlib.Core.Bool.{not}
+use mathlib.Core.List.{List, [], _∷_, List·Memᴰ·head as here}
+use mathlib.Core.Option.{Option, some, Option·none-ne-some, Option·some-injective}
 use Prim.Native.Nat.{ℕ, zero, suc, _≤_, _<_}
 use native.Mathlib.Omega.{arith}
 use lib.Dec.{T}
 use lib.ListN.{length}
 use Rattle.model.specs.Plan.{Plan, threads}
 use Rattle.model.specs.Records.{Call, Take, Give, Report, Won, Record, call, report, isTick, allowed}
-use Rattle.model.specs.State.{dormant, ready, waiting, State, start, condition, latestSwitch}
+use Rattle.model.specs.State.{dormant, waiting, State, start, condition, latestSwitch}
 use Rattle.model.specs.Priorities.{chosen}
 use Rattle.model.specs.Words.{Is, runner, ticks, CallOf, TakeOrGive}
 use Rattle.model.proofs.Invariant.{tag, Invariant}
 use Rattle.model.proofs.Performed.{Caller, Moved, byCall, byReport}
 use Rattle.model.proofs.Kept.{moved-keeps, all-dormant, start-has}
-use Rattle.model.proofs.Holdings.{callNumber, call-numbered, callOf, nothing-due}
+use Rattle.model.proofs.Holdings.{callNumber, call-numbered, nothing-due}
 use Rattle.model.proofs.Dues.{WonReady, won-stays-ready, tick-counts, switch-given}
 
 pub look : (rs : List Record) (k : ℕ) → k < length rs → (r : Record) × Is rs k r

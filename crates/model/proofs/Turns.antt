@@ -1,23 +1,21 @@
 -- The state diagram of a thread: how one record changes its condition.
 use mathlib.Core.Path.{_≡_, refl, ap, sym, subst, _∙_}
 use mathlib.Core.Logic.{_⊎_, inl, inr, _≢_}
-use mathlib.Core.Bool.{Bool, true, false, not}
-use mathlib.Core.List.{List, [], _∷_, _++_, append-assoc, List·Memᴰ as Mem, List·Memᴰ·head as here, List·Memᴰ·tail as there, List·Memᴰ·cases-cons as cases-cons}
-use mathlib.Core.Option.{some}
-use Prim.Native.Nat.{ℕ, suc, _+_, _≤_, _<_}
+use mathlib.Core.Bool.{not}
+use mathlib.Core.List.{List, [], _∷_, _++_, append-assoc, List·Memᴰ as Mem, List·Memᴰ·head as here, List·Memᴰ·tail as there}
+use Prim.Native.Nat.{ℕ, suc, _+_, _<_}
 use native.Mathlib.Omega.{arith}
 use lib.Dec.{T, ltb, ltb→lt, nltb→le, eqb-refl, T-not}
 use lib.ListN.{length, getD, set, length-set}
 use lib.Seq.{set-out}
 use Rattle.model.specs.Searches.{_▷_}
 use Rattle.model.specs.Plan.{Plan}
-use Rattle.model.specs.Records.{Call, Create, Delay, End, Take, Give, Tick, Report, Ready, Won, Lost, Record, call, isTick}
+use Rattle.model.specs.Records.{Call, Create, Delay, End, Take, Give, Tick, Report, Ready, Won, Lost, Record, call}
 use Rattle.model.specs.State.{Condition, dormant, ready, asleep, waiting, hold, State, condition, allReady, arrive, owe}
 use Rattle.model.specs.Priorities.{chosen}
 use Rattle.model.specs.Calls.{sleepsUntil, sleepers, tick}
 use Rattle.model.proofs.Tests.{split, equal?, some-one}
-use Rattle.model.proofs.Searches.{IsGreatest}
-use Rattle.model.proofs.Invariant.{tag, SoundState}
+use Rattle.model.proofs.Invariant.{SoundState}
 use Rattle.model.proofs.Agreement.{inside, set-other, set-own}
 use Rattle.model.proofs.Performed.{Caller, Performed, created, delayed, kept, yielded, ended, won, lost, freed, passed, refused, ticked, switchDue, Moved, byCall, byReport}
 use Rattle.model.proofs.Kept.{caller-queued, sleeps-is, sleeper, in-sleepers}

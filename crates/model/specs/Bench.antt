@@ -5,7 +5,7 @@ use Rattle.model.specs.Searches.{_▷_}
 use Rattle.model.specs.Plan.{Plan}
 use Rattle.model.specs.Records.{Call, Record, call, report}
 use Rattle.model.specs.State.{State, start, lastReported, setReported, setDue}
-use Rattle.model.specs.Runs.{Outcome, moved, broke, step}
+use Rattle.model.specs.Runs.{moved, broke, step}
 
 -- every report due is given
 abbrev pub deliverAll : State → State

@@ -1,13 +1,13 @@
 -- What each call does, in the order of document 01.
-use mathlib.Core.Bool.{Bool, true, false, cond, not, _&&_}
+use mathlib.Core.Bool.{Bool, false, cond, not, _&&_}
 use mathlib.Core.List.{List, [], _∷_, map}
 use mathlib.Core.Option.{Option, none, some}
-use Prim.Native.Nat.{ℕ, zero, suc, _+_}
+use Prim.Native.Nat.{ℕ, suc, _+_}
 use lib.Dec.{ltb, eqb}
 use lib.ListN.{length}
 use Rattle.model.specs.Searches.{_▷_, all, any, filter, firstGreatest, upTo, same}
 use Rattle.model.specs.Plan.{Plan, base}
-use Rattle.model.specs.Records.{Call, Create, Delay, Relinquish, End, Take, Give, Tick, Report, Ready, Switch, Won, Lost, Yield}
+use Rattle.model.specs.Records.{Call, Create, Delay, Relinquish, End, Take, Give, Tick, Ready, Switch, Won, Lost, Yield}
 use Rattle.model.specs.State.{Condition, dormant, ready, asleep, waiting, Hold, State, condition, lastReported, setTickNumber, becomes, leaveQueue, joinQueue, arrive, joinWaits, leaveWaits, beginHold, endHold, owe}
 use Rattle.model.specs.Priorities.{heldCeiling, current, chosen}
 

@@ -1,6 +1,6 @@
 -- The known runs P1 to P13 of document 01, each with its verdict.
 use mathlib.Core.Path.{_≡_, refl}
-use mathlib.Core.Bool.{Bool, _&&_}
+use mathlib.Core.Bool.{_&&_}
 use mathlib.Core.List.{List, [], _∷_, _++_, map}
 use mathlib.Core.Option.{none, some}
 use Prim.Native.Nat.{ℕ}
@@ -8,7 +8,7 @@ use lib.Dec.{T}
 use lib.ListN.{replicate, take, set}
 use Rattle.model.specs.Searches.{all}
 use Rattle.model.specs.Plan.{Plan, bit, ceiling, validPlan}
-use Rattle.model.specs.Records.{Call, Create, Delay, Relinquish, End, Take, Give, Tick, Report, Ready, Switch, Won, Lost, Yield, Record, call, report, allowed}
+use Rattle.model.specs.Records.{Call, Create, Delay, Relinquish, Take, Give, Tick, Report, Ready, Switch, Won, Lost, Yield, Record, call, report, allowed}
 use Rattle.model.specs.Priorities.{greatestHold, current, chosen}
 use Rattle.model.specs.Calls.{create, tick, delay, relinquish, end, take as takeCall, give, switch}
 use Rattle.model.specs.Rules.{broken}

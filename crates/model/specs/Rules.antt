@@ -6,7 +6,7 @@ use Prim.Native.Nat.{ℕ}
 use lib.Dec.{eqb}
 use Rattle.model.specs.Searches.{any, isEmpty, same}
 use Rattle.model.specs.Plan.{Plan, mayTake}
-use Rattle.model.specs.Records.{Call, Create, Delay, Relinquish, End, Take, Give, Tick, Report, Record, call, report, reportKind, named}
+use Rattle.model.specs.Records.{Create, Delay, Relinquish, End, Take, Give, Tick, Report, Record, call, report, reportKind, named}
 use Rattle.model.specs.State.{Condition, dormant, ready, asleep, waiting, Hold, State, condition, isHold}
 use Rattle.model.specs.Priorities.{chosen}
 

@@ -1,14 +1,14 @@
 -- The words of demand 3, over the records alone. A record is named by its number, from 0; "after k records" counts the first k, 0 included.
 use mathlib.Core.Path.{_≡_}
 use mathlib.Core.Logic.{_⊎_}
-use mathlib.Core.Bool.{Bool, true, false, not}
+use mathlib.Core.Bool.{not}
 use mathlib.Core.List.{List}
 use mathlib.Core.Option.{Option, none, some}
 use Prim.Native.Nat.{ℕ, zero, suc, _+_, _≤_, _<_}
 use lib.Dec.{T}
 use lib.ListN.{getElem?}
 use Rattle.model.specs.Plan.{Plan, base, ceiling}
-use Rattle.model.specs.Records.{Call, Create, Delay, Relinquish, End, Take, Give, Tick, Report, Won, Lost, Record, call, report, isTick}
+use Rattle.model.specs.Records.{Call, Create, Delay, Relinquish, End, Take, Give, Tick, Won, Lost, Record, call, report, isTick}
 use Rattle.model.specs.State.{State, start, switchedTo}
 use Rattle.model.specs.Runs.{effect}
 
