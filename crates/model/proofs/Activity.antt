@@ -18,7 +18,8 @@ use Rattle.model.proofs.Nesting.{Rules}
 use Rattle.model.proofs.Performed.{Caller}
 use Rattle.model.proofs.Turns.{Turn, same, starts, wakes, sleeps, stops, loses, inherits, turn, caller-ready, create-readies, delay-puts-to-sleep, tick-wakes}
 use Rattle.model.proofs.Holdings.{callNumber, Held, before, byTake, byGive, hold-from}
-use Rattle.model.proofs.Trace.{look, below, Trace, invariant, tick-number, caller-chosen, chosen-caller}
+use Rattle.model.proofs.Numbered.{look, below}
+use Rattle.model.proofs.Trace.{Trace, invariant, tick-number, caller-chosen, chosen-caller}
 use Rattle.model.proofs.ToRecords.{turn-at}
 use Rattle.model.proofs.Blocking.{Awake, caller-blocks, calls-chosen}
 

@@ -16,7 +16,8 @@ use Rattle.model.proofs.Tests.{split, and-left, and-right, equal?}
 use Rattle.model.proofs.Searches.{all-append}
 use Rattle.model.proofs.Holdings.{callOf}
 use Rattle.model.proofs.Dues.{plain, Grows, behind, afresh, given, grows}
-use Rattle.model.proofs.Trace.{look, below, same-record, Trace, invariant, idle-take-or-give, first-is-due}
+use Rattle.model.proofs.Numbered.{look, below, same-record}
+use Rattle.model.proofs.Trace.{Trace, invariant, idle-take-or-give, first-is-due}
 
 -- no Won or Lost is due, or d is the only one, first
 abbrev Front : Report → List Report → Type 0

@@ -21,7 +21,8 @@ use Rattle.model.proofs.Invariant.{tag, Invariant}
 use Rattle.model.proofs.Nesting.{Rules, holds-nest, chosen-below}
 use Rattle.model.proofs.Performed.{Caller}
 use Rattle.model.proofs.Holdings.{Held, before, byTake, byGive, hold-from}
-use Rattle.model.proofs.Trace.{look, below, Trace, invariant, idle-call, caller-chosen}
+use Rattle.model.proofs.Numbered.{look, below}
+use Rattle.model.proofs.Trace.{Trace, invariant, idle-call, caller-chosen}
 use Rattle.model.proofs.Belonging.{Moment}
 use Rattle.model.proofs.ToRecords.{held-from, to-holds}
 use Rattle.model.proofs.ToMachine.{waits-until}

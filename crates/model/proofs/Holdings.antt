@@ -68,9 +68,11 @@ module _ (p : Plan) (st : State) where
 
   left-not-given : (x s : ℕ) → Caller p st x → (h : Hold) → Mem h (given x s (st .holds)) → Mem h (st .holds) × (Given (call (Give s)) h → ⊥)
   left-not-given x s e h m =
-      let k = filtered (λ (h : Hold). not (isHold s x h)) (st .holds) m in
-      (k .0, λ g. T-not (isHold s x h) (k .1)
-      (and-both (eqb (h .section) s) (eqb (h .thread) x) (eq-test (h .section) s (sym (ap (λ r. sectionOf (callOf r)) (g .0)))) (eq-test (h .thread) x (some-one (chosen p st) (h .thread) x (g .1) e))))
+      let k = filtered (λ (h : Hold). not (isHold s x h)) (st .holds) m in (
+        k .0,
+        λ g. T-not (isHold s x h) (k .1)
+            (and-both (eqb (h .section) s) (eqb (h .thread) x) (eq-test (h .section) s (sym (ap (λ r. sectionOf (callOf r)) (g .0)))) (eq-test (h .thread) x (some-one (chosen p st) (h .thread) x (g .1) e))),
+      )
 
   -- a hold is still there, or was given
   pub hold-stays : {r : Record} {st' : State} → Moved p st r st' → (h : Hold) → Mem h (st .holds) → Mem h (st' .holds) ⊎ Given r h

@@ -1,6 +1,6 @@
 -- How the verdict of a run and the state after k records go together.
 use mathlib.Core.Path.{_≡_, refl, ap, sym, subst, _∙_}
-use mathlib.Core.List.{List, [], _∷_, List·Memᴰ as Mem, List·Memᴰ·head as here, List·Memᴰ·tail as there}
+use mathlib.Core.List.{List, [], _∷_}
 use mathlib.Core.Option.{Option·none-ne-some, Option·some-injective}
 use Prim.Native.Nat.{ℕ, zero, suc, _+_, _≤_, _<_}
 use native.Mathlib.Omega.{arith}
@@ -15,25 +15,9 @@ use Rattle.model.specs.Runs.{effect, Outcome, moved, broke, step, Verdic
 use Rattle.model.specs.Words.{Is, after}
 use Rattle.model.proofs.Tests.{and-left, and-right, and-both}
 use Rattle.model.proofs.Searches.{all-at}
+use Rattle.model.proofs.Numbered.{look, below, listed}
 use Rattle.model.proofs.Performed.{answered}
 use Rattle.model.proofs.Reached.{Reached, begin, next}
-
--- records by their numbers
-
-pub is-below : (rs : List Record) (k : ℕ) (r : Record) → Is rs k r → k < length rs
-is-below [] k r e = absurd (Option·none-ne-some r e)
-is-below (x ∷ rs) zero r e = omega arith
-is-below (x ∷ rs) (suc k) r e = omega (arith, is-below rs k r e)
-
-pub some-at : (rs : List Record) (k : ℕ) → k < length rs → (r : Record) × Is rs k r
-some-at [] k h = absurd (omega arith)
-some-at (x ∷ rs) zero h = (x, refl)
-some-at (x ∷ rs) (suc k) h = some-at rs k (omega arith)
-
-pub is-mem : (rs : List Record) (k : ℕ) (r : Record) → Is rs k r → Mem r rs
-is-mem [] k r e = absurd (Option·none-ne-some r e)
-is-mem (x ∷ rs) zero r e = here (sym (Option·some-injective x r e))
-is-mem (x ∷ rs) (suc k) r e = there (is-mem rs k r e)
 
 is-next : (rs : List Record) (k : ℕ) (r : Record) → Is rs k r → drop k rs ≡ r ∷ drop (suc k) rs
 is-next [] k r e = absurd (Option·none-ne-some r e)
@@ -72,14 +56,16 @@ module _ (p : Plan) (rs : List Record) (n d : ℕ) (e : judge p rs ≡ clean n d
   clean-rest : (k : ℕ) → k ≤ length rs → run p k (drop k rs) (after p rs k) ≡ clean n d
   unfolding judge
   clean-rest zero h = e
-  clean-rest (suc k) h = go (some-at rs k h) (clean-rest k (omega arith))
+  clean-rest (suc k) h = go (look rs k h) (clean-rest k (omega arith))
     where
       go : (r : Record) × Is rs k r → run p k (drop k rs) (after p rs k) ≡ clean n d → run p (suc k) (drop (suc k) rs) (after p rs (suc k)) ≡ clean n d
       go r c = rw (r .1) (run-clean p k (r .0) (drop (suc k) rs) (after p rs k) n d (rw (is-next rs k (r .0) (r .1)) at c) .1)
 
+  -- each record of a clean run moves the machine from the state before it to the one after it
   pub clean-steps : (k : ℕ) (r : Record) → Is rs k r → step p (after p rs k) r ≡ moved (after p rs (suc k))
-  clean-steps k r q = rw q (run-clean p k r (drop (suc k) rs) (after p rs k) n d (rw (is-next rs k r q) at (clean-rest k (omega (arith, is-below rs k r q)))) .0)
+  clean-steps k r q = rw q (run-clean p k r (drop (suc k) rs) (after p rs k) n d (rw (is-next rs k r q) at (clean-rest k (omega (arith, below rs k r q)))) .0)
 
+  -- the verdict counts the records, and the reports due at their end
   pub clean-count : (n ≡ length rs) × (d ≡ length (after p rs (length rs) .due))
   clean-count = (cc ended, cc ended)
     where
@@ -91,18 +77,29 @@ module _ (p : Plan) (rs : List Record) (n d : ℕ) (e : judge p rs ≡ clean n d
 
 -- the records before a breach
 
--- a run from record i that breaks at record b is clean up to there
-broken-at : (p : Plan) (rs : List Record) (i : ℕ) (st : State) (b n : ℕ) → run p i rs st ≡ breach b n → (k d : ℕ) × (b ≡ i + k) × (k < length rs) × (run p i (take k rs) st ≡ clean b d)
-broken-at p [] i st b n e = let z : _≡_ {A = ℕ} 0 1 = cc (run-ended p i st) in absurd (omega arith)
-broken-at p (r ∷ rs) i st b n e = go (step p st r) refl (λ st' f. broken-at p rs (suc i) st' b n f)
-  where
-    go : (o : Outcome) → step p st r ≡ o → ((st' : State) → run p (suc i) rs st' ≡ breach b n → (k d : ℕ) × (b ≡ suc i + k) × (k < length rs) × (run p (suc i) (take k rs) st' ≡ clean b d)) → (k d : ℕ) × (b ≡ i + k) × (k < length (r ∷ rs)) × (run p i (take k (r ∷ rs)) st ≡ clean b d)
-    go (moved st') q ih = let f = ih st' (sym (run-moved p i r rs st st' q) ∙ e) in (suc (f .0), f .1, omega (arith, f .2), omega (arith, f .3), run-moved p i r (take (f .0) rs) st st' q ∙ f .4)
-    go (broke m) q ih = let z : i ≡ b = cc (run-broke p i r rs st m q) in (0, length (st .due), omega arith, omega arith, run-ended p i st ∙ ap (λ (k : ℕ). clean k (length (st .due))) z)
+-- the run from a state, whose first record has number i, is clean up to record b
+abbrev CleanUpTo : Plan → ℕ → List Record → State → ℕ → Type 0
+CleanUpTo p i rs st b = (k d : ℕ) × (b ≡ i + k) × (k < length rs) × (run p i (take k rs) st ≡ clean b d)
 
+clean-up-to : (p : Plan) (rs : List Record) (i : ℕ) (st : State) (b n : ℕ) → run p i rs st ≡ breach b n → CleanUpTo p i rs st b
+clean-up-to p [] i st b n e = let z : _≡_ {A = ℕ} 0 1 = cc (run-ended p i st) in absurd (omega arith)
+clean-up-to p (r ∷ rs) i st b n e = go (step p st r) refl (λ st' f. clean-up-to p rs (suc i) st' b n f)
+  where
+    go : (o : Outcome) → step p st r ≡ o → ((st' : State) → run p (suc i) rs st' ≡ breach b n → CleanUpTo p (suc i) rs st' b) → CleanUpTo p i (r ∷ rs) st b
+    go (moved st') q ih =
+        let f = ih st' (sym (run-moved p i r rs st st' q) ∙ e) in
+        (suc (f .0), f .1, omega (arith, f .2), omega (arith, f .3), run-moved p i r (take (f .0) rs) st st' q ∙ f .4)
+    go (broke m) q ih =
+        let z : i ≡ b = cc (run-broke p i r rs st m q) in
+        (0, length (st .due), omega arith, omega arith, run-ended p i st ∙ ap (λ (k : ℕ). clean k (length (st .due))) z)
+
+-- a breach is at one of the records, and those before it break no rule
 pub breach-prefix : (p : Plan) (rs : List Record) (b n : ℕ) → judge p rs ≡ breach b n → (d : ℕ) × (judge p (take b rs) ≡ clean b d) × (b < length rs)
 unfolding judge
-breach-prefix p rs b n e = let f = broken-at p rs 0 (start p) b n e in let q : f .0 ≡ b = omega (arith, f .2) in (f .1, subst (λ (k : ℕ). run p 0 (take k rs) (start p) ≡ clean b (f .1)) q (f .4), omega (arith, f .3))
+breach-prefix p rs b n e =
+    let f = clean-up-to p rs 0 (start p) b n e in
+    let q : f .0 ≡ b = omega (arith, f .2) in
+    (f .1, subst (λ (k : ℕ). run p 0 (take k rs) (start p) ≡ clean b (f .1)) q (f .4), omega (arith, f .3))
 
 allowed-take : (p : Plan) (k : ℕ) (rs : List Record) → T (all (allowed p) rs) → T (all (allowed p) (take k rs))
 allowed-take p zero rs a = tt
@@ -118,7 +115,7 @@ clean-before-breach p rs b n v a e =
 -- every state of a clean run is one that runs reach
 pub clean-reached : (p : Plan) (rs : List Record) → Clean p rs → (k : ℕ) → k ≤ length rs → Reached p (after p rs k)
 clean-reached p rs c zero h = begin
-clean-reached p rs c (suc k) h = go (some-at rs k h) (clean-reached p rs c k (omega arith))
+clean-reached p rs c (suc k) h = go (look rs k h) (clean-reached p rs c k (omega arith))
   where
     go : (r : Record) × Is rs k r → Reached p (after p rs k) → Reached p (after p rs (suc k))
-    go r b = next (r .0) b (all-at (allowed p) rs (c .operands) (is-mem rs k (r .0) (r .1))) (clean-steps p rs (length rs) (c .due) (c .verdict) k (r .0) (r .1))
+    go r b = next (r .0) b (all-at (allowed p) rs (c .operands) (listed rs k (r .0) (r .1))) (clean-steps p rs (length rs) (c .due) (c .verdict) k (r .0) (r .1))

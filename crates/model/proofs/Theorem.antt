@@ -20,8 +20,9 @@ use Rattle.model.proofs.Invariant.{tag, Invariant}
 use Rattle.model.proofs.Nesting.{Rules, chosen-some}
 use Rattle.model.proofs.Performed.{moves}
 use Rattle.model.proofs.Reached.{reached-invariant}
-use Rattle.model.proofs.Prefixes.{is-mem, is-below, clean-steps, clean-before-breach, clean-reached}
-use Rattle.model.proofs.Trace.{below, Trace, invariant, runner-chosen}
+use Rattle.model.proofs.Prefixes.{clean-steps, clean-before-breach, clean-reached}
+use Rattle.model.proofs.Numbered.{below, listed}
+use Rattle.model.proofs.Trace.{Trace, invariant, runner-chosen}
 use Rattle.model.proofs.ToRecords.{waited-from, to-waits}
 use Rattle.model.proofs.ToMachine.{waits-at, holds-at}
 use Rattle.model.proofs.Blocking.{waiting?, blocks?, one-blocks, to-blocks, call-within, call-moment, lower-blocks}
@@ -33,8 +34,8 @@ trace p rs c =
     record {
       at = after p rs;
       begins = refl;
-      moves = λ i r q. moves p (after p rs i) (reached-invariant p (after p rs i) (clean-reached p rs c i (omega (arith, is-below rs i r q))) .sound) r (after p rs (suc i)) (clean-steps p rs (length rs) (c .due) (c .verdict) i r q);
-      fits = λ i r q. all-at (allowed p) rs (c .operands) (is-mem rs i r q);
+      moves = λ i r q. moves p (after p rs i) (reached-invariant p (after p rs i) (clean-reached p rs c i (omega (arith, below rs i r q))) .sound) r (after p rs (suc i)) (clean-steps p rs (length rs) (c .due) (c .verdict) i r q);
+      fits = λ i r q. all-at (allowed p) rs (c .operands) (listed rs i r q);
     }
 
 module _ (p : Plan) (rs : List Record) (tr : Trace p rs) where

@@ -17,7 +17,8 @@ use Rattle.model.proofs.Performed.{Caller}
 use Rattle.model.proofs.Turns.{Turn, same, starts, wakes, sleeps, stops, loses, inherits, caller-ready}
 use Rattle.model.proofs.Holdings as holdings
 use Rattle.model.proofs.Holdings.{Given, TakeOutcome, take-outcome, hold-stays}
-use Rattle.model.proofs.Trace.{look, below, Trace, invariant, idle-call, idle-take-or-give, caller-chosen, chosen-caller, no-won-due}
+use Rattle.model.proofs.Numbered.{look, below}
+use Rattle.model.proofs.Trace.{Trace, invariant, idle-call, idle-take-or-give, caller-chosen, chosen-caller, no-won-due}
 use Rattle.model.proofs.Belonging.{Written, Moment, write, belongs-first, not-after}
 use Rattle.model.proofs.ToRecords.{turn-at, relieves}
 

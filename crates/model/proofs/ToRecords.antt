@@ -17,7 +17,8 @@ use Rattle.model.proofs.Tests.{split, equal?}
 use Rattle.model.proofs.Invariant.{tag}
 use Rattle.model.proofs.Turns.{Turn, same, starts, wakes, sleeps, stops, loses, inherits, turn}
 use Rattle.model.proofs.Holdings.{Held, before, byTake, byGive, hold-from}
-use Rattle.model.proofs.Trace.{look, below, same-record, not-report, Trace, invariant, idle-call, caller-chosen, chosen-caller, no-won-due, no-won-given, dormant-first}
+use Rattle.model.proofs.Numbered.{look, below, same-record}
+use Rattle.model.proofs.Trace.{not-report, Trace, invariant, idle-call, caller-chosen, chosen-caller, no-won-due, no-won-given, dormant-first}
 use Rattle.model.proofs.Belonging.{Written, Moment, write, belongs-first, written-belongs, not-after}
 
 module _ (p : Plan) (rs : List Record) (tr : Trace p rs) where

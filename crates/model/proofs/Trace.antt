@@ -3,8 +3,8 @@ use mathlib.Core.Path.{_≡_, refl, ap, sym, _∙_}
 use mathlib.Core.Logic.{_⊎_, inl, inr}
 use mathlib.Core.Bool.{not}
 use mathlib.Core.List.{List, [], _∷_, List·Memᴰ·head as here}
-use mathlib.Core.Option.{Option, some, Option·none-ne-some, Option·some-injective}
-use Prim.Native.Nat.{ℕ, zero, suc, _≤_, _<_}
+use mathlib.Core.Option.{Option, some}
+use Prim.Native.Nat.{ℕ, zero, suc, _≤_}
 use native.Mathlib.Omega.{arith}
 use lib.Dec.{T}
 use lib.ListN.{length}
@@ -14,23 +14,11 @@ use Rattle.model.specs.State.{dormant, waiting, State, start, condition,
 use Rattle.model.specs.Priorities.{chosen}
 use Rattle.model.specs.Words.{Is, runner, ticks, CallOf, TakeOrGive}
 use Rattle.model.proofs.Invariant.{tag, Invariant}
+use Rattle.model.proofs.Numbered.{look, below, same-record}
 use Rattle.model.proofs.Performed.{Caller, Moved, byCall, byReport}
 use Rattle.model.proofs.Kept.{moved-keeps, all-dormant, start-has}
 use Rattle.model.proofs.Holdings.{callNumber, call-numbered, nothing-due}
 use Rattle.model.proofs.Dues.{WonReady, won-stays-ready, tick-counts, switch-given}
-
-pub look : (rs : List Record) (k : ℕ) → k < length rs → (r : Record) × Is rs k r
-look [] k h = absurd (omega arith)
-look (r ∷ rs) zero h = (r, refl)
-look (r ∷ rs) (suc k) h = look rs k (omega arith)
-
-pub below : (rs : List Record) (k : ℕ) (r : Record) → Is rs k r → k < length rs
-below [] k r e = absurd (Option·none-ne-some r e)
-below (x ∷ rs) zero r e = omega arith
-below (x ∷ rs) (suc k) r e = omega (arith, below rs k r e)
-
-pub same-record : (rs : List Record) (k : ℕ) (r r' : Record) → Is rs k r → Is rs k r' → r ≡ r'
-same-record rs k r r' e f = Option·some-injective r r' (sym e ∙ f)
 
 pub not-report : (rs : List Record) (k : ℕ) (c : Call) (d : Report) → Is rs k (call c) → Is rs k (report d) → ⊥
 not-report rs k c d i j = omega (arith, call-numbered c, ap callNumber (same-record rs k (call c) (report d) i j))

@@ -8,8 +8,9 @@ use Rattle.model.specs.Records.{Create}
 use Rattle.model.specs.Runs.{Clean}
 use Rattle.model.specs.Known.{planA, runA}
 use Rattle.model.specs.Words.{Relieves, Loses, Waits, Blocks}
-use Rattle.model.specs.Promise.{NothingDue, LowerInWait, Promise}
+use Rattle.model.specs.Promise.{NothingDue, LowerInWait}
 use Rattle.model.proofs.Ceiling.{ceiling-ge}
+use Rattle.model.proofs.Theorem.{promise}
 use Rattle.model.proofs.Examples.Judged.{judged}
 use Rattle.model.proofs.Examples.Stretches.{holds-won, loses-at, no-sooner}
 
@@ -50,5 +51,5 @@ unfolding judged
 nothing-due-A = refl
 
 -- What was shown directly is what the promise says of this wait.
-pub told-A : Promise planA runA → Blocks runA planA 0 2 9
-told-A d = d .oneLowerThread 2 8 0 11 0 11 lower-A lower-A .1
+pub told-A : Blocks runA planA 0 2 9
+told-A = promise planA runA clean-A .oneLowerThread 2 8 0 11 0 11 lower-A lower-A .1

@@ -15,6 +15,7 @@ use Rattle.model.specs.Words.{Is, runner, Calls, TakeOrGive, Belongs, Re
 use Rattle.model.specs.Promise.{LowerInActive}
 use Rattle.model.proofs.Tests.{split}
 use Rattle.model.proofs.Searches.{all-at}
+use Rattle.model.proofs.Numbered.{listed}
 
 -- a call of this kind, by document 01's number
 abbrev pub isCall : (kind : ℕ) → Record → Bool
@@ -37,12 +38,6 @@ isGive s (report r) = false
 abbrev pub isWon : (thread : ℕ) → Record → Bool
 isWon w (call k) = false
 isWon w (report r) = eqb (reportKind r) 18 && same (named r) (some w)
-
--- a record with a number is one of the list
-is-in : (rs : List Record) (e : ℕ) {r : Record} → Is rs e r → Mem r rs
-is-in [] e {r} q = absurd (Option·none-ne-some r q)
-is-in (x ∷ rs) zero {r} q = here (sym (Option·some-injective x r q))
-is-in (x ∷ rs) (suc e) q = there (is-in rs e q)
 
 -- the records with number a or above and below b
 abbrev pub stretch : (a b : ℕ) → List Record → List Record
@@ -68,7 +63,7 @@ module _ (rs : List Record) where
 
   -- the same of the whole list
   pub nowhere : (f : Record → Bool) → T (all (λ r. not (f r)) rs) → (e : ℕ) {r : Record} → Is rs e r → T (f r) → ⊥
-  nowhere f t e {r} q = T-not (f r) (all-at (λ x. not (f x)) rs t (is-in rs e q))
+  nowhere f t e {r} q = T-not (f r) (all-at (λ x. not (f x)) rs t (listed rs e r q))
 
   -- a Won or Lost right behind a Take or Give belongs to it
   right-behind : (i : ℕ) → TakeOrGive rs i → Belongs rs (suc i) i

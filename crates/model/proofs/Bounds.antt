@@ -1,0 +1,223 @@
+-- How long the machine's lists get: each thread once in the queue and in the waits, each section held once, at most T + 1 reports due.
+use mathlib.Core.Path.{_≡_, refl, ap, sym, subst, _∙_}
+use mathlib.Core.Logic.{_⊎_, inl, inr, _≢_}
+use mathlib.Core.Bool.{Bool, true, false, cond, not, _&&_}
+use mathlib.Core.List.{List, [], _∷_, _++_, map, tail, append-assoc, append-nil, List·Memᴰ as Mem, List·Memᴰ·tail as there, List·Memᴰ·cases-cons as cases-cons, List·Memᴰ·append-cases as append-cases, List·Memᴰ·eq-of-singleton as single, Memᴰ·of-map as of-map}
+use mathlib.Core.Option.{Option, none, some}
+use Prim.Native.Nat.{ℕ, zero, suc, _+_, _^_, _≤_, _<_}
+use native.Mathlib.Omega.{arith}
+use native.Mathlib.Nat.{div-eq-of-lt}
+use lib.Dec.{T, ltb, leb, eqb, ltb→lt, lt→ltb, nltb→le}
+use lib.ListN.{length, getD, length-append, length-map}
+use lib.Pow.{pow-pos, pow-mono}
+use Rattle.model.specs.Searches.{_▷_, all, upTo, same}
+use Rattle.model.specs.Plan.{Plan, threads, bit, mayTake, validPlan}
+use Rattle.model.specs.Records.{Call, Report, Ready, Switch, Won, Lost, Yield, Record, call, report, named, isThread, allowedCall, allowed}
+use Rattle.model.specs.State.{Condition, ready, waiting, Hold, State, condition, lastReported, owe}
+use Rattle.model.specs.Priorities.{chosen}
+use Rattle.model.specs.Calls.{sleepsUntil, sleepers, tick, switch, perform}
+use Rattle.model.specs.Rules.{questions}
+use Rattle.model.specs.Runs.{effect}
+use Rattle.model.proofs.Tests.{split, and-left, and-right}
+use Rattle.model.proofs.Searches.{Pairwise, pairwise-filter, Distinct, upTo-distinct, pigeonhole}
+use Rattle.model.proofs.Invariant.{tag, OtherSection, Agree, SoundState}
+use Rattle.model.proofs.Agreement.{inside}
+use Rattle.model.proofs.Performed.{Caller, Performed, created, delayed, kept, yielded, ended, won, lost, freed, passed, refused, ticked, AllYes, answered, idle, performed}
+use Rattle.model.proofs.Kept.{caller-queued, sleeper, performed-sound}
+use Rattle.model.proofs.Reached.{Reached, begin, next, reached-invariant}
+
+-- the queue and the waits have each thread at most once
+module _ (p : Plan) {cs : List Condition} {queue waits : List ℕ} (l : Agree p cs queue waits) where
+  pub queued-below : (t : ℕ) → Mem t queue → t < threads p
+  queued-below t m = omega (arith, l .sized, inside cs t ready (l .queued t m) (omega arith))
+
+  pub waiting-below : (t : ℕ) → Mem t waits → t < threads p
+  waiting-below t m = let r = l .waiting' t m in omega (arith, l .sized, inside cs t (waiting (r .0)) (r .1) (omega arith))
+
+  pub queue-fits : length queue ≤ threads p
+  queue-fits = pigeonhole (threads p) queue (l .queueOnce) queued-below
+
+  pub waits-fit : length waits ≤ threads p
+  waits-fit = pigeonhole (threads p) waits (l .waitsOnce) waiting-below
+
+-- the sections that can be taken
+
+-- what passes for all of a list and for the default passes for whatever is looked up
+getD-passes : (f : ℕ → Bool) (l : List ℕ) (t d : ℕ) → T (all f l) → T (f d) → T (f (getD l t d))
+getD-passes f [] t d a h = h
+getD-passes f (n ∷ l) zero d a h = and-left (f n) (all f l) a
+getD-passes f (n ∷ l) (suc t) d a h = getD-passes f l t d (and-right (f n) (all f l) a) h
+
+-- a number below 2 ^ s has no bit at s
+no-bit : (n s : ℕ) → n < 2 ^ s → T (bit n s) → ⊥
+unfolding bit
+no-bit n s h t = rw (div-eq-of-lt h) at t
+
+-- question 4: no needs bit at S or above is set; a thread past the list needs nothing
+needs-below : (p : Plan) → T (validPlan p) → (t : ℕ) → getD (p .needs) t 0 < 2 ^ p .sections
+unfolding validPlan
+needs-below p v t = ltb→lt (getD (p .needs) t 0) (2 ^ p .sections) (getD-passes small (p .needs) t 0 (and-right others (all small (p .needs)) v) (lt→ltb 0 (2 ^ p .sections) (pow-pos (p .sections))))
+  where
+    -- questions 1 to 3
+    others : Bool
+    others = (leb 1 (threads p) && leb (threads p) 16 && leb (p .sections) 16) && eqb (length (p .needs)) (threads p) && all (λ b. leb 1 b && leb b 64) (p .bases)
+
+    small : ℕ → Bool
+    small n = ltb n (2 ^ p .sections)
+
+-- only a section of the plan can be taken
+pub mayTake-below : (p : Plan) → T (validPlan p) → (t s : ℕ) → T (mayTake p t s) → s < p .sections
+mayTake-below p v t s m = go (split (ltb s (p .sections)))
+  where
+    go : T (ltb s (p .sections)) ⊎ T (not (ltb s (p .sections))) → s < p .sections
+    go (inl i) = ltb→lt s (p .sections) i
+    go (inr i) = absurd (no-bit (getD (p .needs) t 0) s (omega (arith, needs-below p v t, pow-mono (nltb→le s (p .sections) i))) m)
+
+-- no section is held twice, so the sections held are all different
+distinct-sections : (hs : List Hold) → Pairwise OtherSection hs → Distinct (map (λ (h : Hold). h .section) hs)
+distinct-sections [] d = tt
+distinct-sections (h ∷ hs) d = (λ s m e. let r = of-map (λ (k : Hold). k .section) hs m in d .0 (r .0) (r .1) (e ∙ sym (r .2)), distinct-sections hs (d .1))
+
+-- each section of the plan is held once at most
+pub holds-fit : (p : Plan) → T (validPlan p) → (st : State) → SoundState p st → length (st .holds) ≤ p .sections
+holds-fit p v st c = omega (arith, length-map (st .holds) section, pigeonhole (p .sections) (map section (st .holds)) (distinct-sections (st .holds) (c .heldOnce)) below)
+  where
+    section : Hold → ℕ
+    section h = h .section
+
+    below : (s : ℕ) → Mem s (map section (st .holds)) → s < p .sections
+    below s m = let r = of-map section (st .holds) m in subst (λ (n : ℕ). n < p .sections) (r .2) (mayTake-below p v (r .0 .thread) (r .0 .section) (c .needed (r .0) (r .1)))
+
+-- the reports that become due
+
+-- the second list is the first with at most n reports behind it, each allowed by question 8
+record Adds (p : Plan) (n : ℕ) (before after : List Report) : Type 0 where
+  new : List Report
+  joined : after ≡ before ++ new
+  few : length new ≤ n
+  known : (d : Report) → Mem d new → T (allowed p (report d))
+
+module _ (p : Plan) where
+  adds-none : {n : ℕ} {l : List Report} → Adds p n l l
+  adds-none {l = l} = record { new = []; joined = sym (append-nil l); few = omega arith; known = λ d m. elim m [ ] }
+
+  -- one report, of thread t
+  adds-one : {n : ℕ} {l : List Report} (d : Report) (t : ℕ) → named d ≡ some t → t < threads p → 0 < n → Adds p n l (l ++ d ∷ [])
+  adds-one d t e h i = record { new = d ∷ []; joined = refl; few = i; known = λ r m. rw (single m, e) (lt→ltb t (threads p) h) }
+
+  -- first some, then some more
+  adds-both : {n m : ℕ} {a b c : List Report} → Adds p n a b → Adds p m b c → Adds p (n + m) a c
+  adds-both {a = a} {c = c} f g =
+      record {
+        new = f .new ++ g .new;
+        joined = g .joined ∙ ap (λ (l : List Report). l ++ g .new) (f .joined) ∙ append-assoc a (f .new) (g .new);
+        few = omega (arith, length-append (f .new) (g .new), f .few, g .few);
+        known = λ d m. pick d (append-cases (f .new) m);
+      }
+    where
+      pick : (d : Report) → Mem d (f .new) ⊎ Mem d (g .new) → T (allowed p (report d))
+      pick d (inl m) = f .known d m
+      pick d (inr m) = g .known d m
+
+module _ (p : Plan) (st : State) (c : SoundState p st) where
+  caller-below : {x : ℕ} → Caller p st x → x < threads p
+  caller-below {x} e = queued-below p (c .agree) x (caller-queued p st c e)
+
+  -- an heir, who is not the caller: two reports
+  adds-two : (x w : ℕ) → Caller p st x → Mem w (st .waits) → Adds p (threads p) (st .due) (st .due ++ Won w ∷ Ready w ∷ [])
+  adds-two x w e m = record { new = Won w ∷ Ready w ∷ []; joined = refl; few = omega (arith, caller-below e, h, other); known = λ d n. known d (cases-cons n) }
+    where
+      h : w < threads p
+      h = waiting-below p (c .agree) w m
+
+      other : x ≢ w
+      other q = omega (arith, ap tag (sym (c .agree .queued x (caller-queued p st c e)) ∙ ap (condition st) q ∙ c .agree .waiting' w m .1))
+
+      known : (d : Report) → (d ≡ Won w) ⊎ Mem d (Ready w ∷ []) → T (allowed p (report d))
+      known d (inl q) = rw q (lt→ltb w (threads p) h)
+      known d (inr n) = rw (single n) (lt→ltb w (threads p) h)
+
+  -- each thread wakes once at most
+  tick-adds : Adds p (threads p) (st .due) (tick st .due)
+  unfolding tick
+  tick-adds = record { new = map Ready woken; joined = refl; few = omega (arith, length-map woken Ready, pigeonhole (threads p) woken once below); known = known }
+    where
+      n : ℕ
+      n = suc (st .tickNumber)
+
+      woken : List ℕ
+      woken = sleepers n st
+
+      once : Distinct woken
+      once = pairwise-filter _ (λ u. sleepsUntil n (condition st u)) (upTo (length (st .conditions))) (upTo-distinct (length (st .conditions)))
+
+      below : (t : ℕ) → Mem t woken → t < threads p
+      below t m = omega (arith, c .agree .sized, sleeper n st t m .0)
+
+      known : (d : Report) → Mem d (map Ready woken) → T (allowed p (report d))
+      known d m = let r = of-map Ready woken m in rw (← (r .2)) (lt→ltb (r .0) (threads p) (below (r .0) (r .1)))
+
+  -- a call makes at most T reports before the Switch
+  call-adds : {k : Call} {mid : State} → T (allowedCall p k) → Performed p st k mid → Adds p (threads p) (st .due) (mid .due)
+  call-adds a (created {t = t} d) = let h = ltb→lt t (threads p) a in adds-one p (Ready t) t refl h (omega arith)
+  call-adds a (delayed x e f) = adds-none p
+  call-adds a (kept x e) = adds-none p
+  call-adds a (yielded x e) = let h = caller-below e in adds-one p (Yield x) x refl h (omega arith)
+  call-adds a (ended x e f) = adds-none p
+  call-adds a (won x e need clear fresh) = let h = caller-below e in adds-one p (Won x) x refl h (omega arith)
+  call-adds a (lost x e need bar free) = let h = caller-below e in adds-one p (Lost x) x refl h (omega arith)
+  call-adds a (freed x e l none-waits) = adds-none p
+  call-adds a (passed x w z e l g q clear) = adds-two x w e (g .0)
+  call-adds a (refused x w e l g b) = let h = waiting-below p (c .agree) w (g .0) in adds-one p (Lost w) w refl h (omega arith)
+  call-adds a ticked = tick-adds
+
+  -- and the Switch is one more at most
+  switch-adds : Adds p 1 (st .due) (switch p st .due)
+  unfolding switch
+  switch-adds = go (same (lastReported st) (chosen p st))
+    where
+      known : (o : Option ℕ) → chosen p st ≡ o → T (isThread p o)
+      known none e = tt
+      known (some x) e = lt→ltb x (threads p) (caller-below e)
+
+      go : (b : Bool) → Adds p 1 (st .due) (cond b st (st ▷ owe (Switch (chosen p st) ∷ [])) .due)
+      go true = adds-none p
+      go false = record { new = Switch (chosen p st) ∷ []; joined = refl; few = omega arith; known = λ d m. rw (single m) (known (chosen p st) refl) }
+
+-- at most T + 1 reports are due, and each is allowed
+record DueFits (p : Plan) (due : List Report) : Type 0 where
+  few : length due ≤ suc (threads p)
+  known : (d : Report) → Mem d due → T (allowed p (report d))
+
+module _ (p : Plan) where
+  -- a call comes with nothing due, so what is then due is what it made
+  fits-call : {before after : List Report} → before ≡ [] → Adds p (threads p + 1) before after → DueFits p after
+  fits-call {after = after} q g = record { few = omega (arith, ap length e, g .few); known = λ d m. g .known d (subst (Mem d) e m) }
+    where
+      e : after ≡ g .new
+      e = g .joined ∙ ap (λ (l : List Report). l ++ g .new) q
+
+  -- a report given is due no longer
+  fits-report : (due : List Report) → DueFits p due → DueFits p (tail due)
+  fits-report [] f = f
+  fits-report (d ∷ due) f = record { few = omega (arith, f .few); known = λ r m. f .known r (there m) }
+
+  fits-after : (st : State) → SoundState p st → (r : Record) → T (allowed p r) → AllYes (questions p st r) → DueFits p (st .due) → DueFits p (effect p r st .due)
+  fits-after st c (call k) a y f =
+      let m = performed p st c k y in
+      fits-call (idle p st k y) (adds-both p (call-adds p st c a m) (switch-adds p (perform p k st) (performed-sound p st c a m)))
+  fits-after st c (report r) a y f = fits-report (st .due) f
+
+  due-fit : (st : State) → Reached p st → DueFits p (st .due)
+  due-fit st begin = record { few = omega arith; known = λ d m. elim m [ ] }
+  due-fit st (next {st = before} r b a e) =
+      let q = answered p before r st e in
+      subst (λ (s : State). DueFits p (s .due)) (q .1) (fits-after before (reached-invariant p before b .sound) r a (q .0) (due-fit before b))
+
+-- At most T + 1 reports are ever due.
+pub due-fits : (p : Plan) (st : State) → Reached p st → length (st .due) ≤ suc (threads p)
+due-fits p st r = due-fit p st r .few
+
+-- Every report due names a thread of the plan, or is a Switch to nobody.
+pub due-named : (p : Plan) (st : State) → Reached p st → (d : Report) → Mem d (st .due) → T (allowed p (report d))
+due-named p st r d m = due-fit p st r .known d m
