@@ -32,7 +32,8 @@ tick st =
     let woken = sleepers n st in
     st ▷ setTickNumber n ▷ arrive woken ▷ owe (map Ready woken)
 
--- Delay (2), n from 1: the caller sleeps until tick number + n + 1.
+-- Delay (2), n from 1: the caller sleeps until tick number + n + 1. (A tick number and a number of ticks to wait are separate units:
+-- this sum, which gives a number, is the one place where they meet.)
 unfoldable pub delay : (caller ticks : ℕ) → State → State
 delay x n st = st ▷ leaveQueue x ▷ becomes (asleep (st .tickNumber + n + 1)) x
 
