@@ -1,0 +1,78 @@
+-- What the answers to questions say.
+use mathlib.Core.Path.{_≡_, refl}
+use mathlib.Core.Bool.{Bool, true, false, cond, _&&_}
+use mathlib.Core.List.{List, [], _∷_, map}
+use mathlib.Core.Option.{none, some, Option·some-ne-none}
+use Prim.Native.Nat.{ℕ, _≤_}
+use native.Mathlib.Omega.{arith}
+use lib.Dec.{T, eqb, leb, ltb, eqb-refl, leb→le, eqb→eq, ltb→lt}
+use lib.ListN.{length}
+use Rattle.model.specs.Searches.{all, upTo}
+use Rattle.model.specs.Plan.{validPlan}
+use Rattle.model.specs.Rules.{Question, firstNo}
+use Rattle.model.proofs.Tests.{is-true, and-left, and-right}
+use Rattle.plan.specs.Bytes.{threadCount, sectionCount, between, inRange, isPriority, needsWithin, hasCounts, hasLength, hasPriorities, hasNeeds, questions, refusal, number, Whole}
+use Rattle.plan.proofs.Loops.{length-listed}
+
+-- where the first No is none, every answer is Yes
+pub all-Yes : (qs : List Question) → firstNo qs ≡ none → T (all (λ q. q .answer) qs)
+all-Yes [] e = tt
+all-Yes (q ∷ qs) e = go (q .answer) (all-Yes qs) e
+  where
+    go : (b : Bool) → (firstNo qs ≡ none → T (all (λ q. q .answer) qs)) → cond b (firstNo qs) (some (q .number)) ≡ none → T (b && all (λ q. q .answer) qs)
+    go true k e = k e
+    go false k e = absurd (Option·some-ne-none (q .number) e)
+
+-- where no question has the number 0, the answer 0 says that the first No is none
+pub zero-none : (qs : List Question) → T (all (λ q. ltb 0 (q .number)) qs) → number (firstNo qs) ≡ 0 → firstNo qs ≡ none
+zero-none [] t e = refl
+zero-none (q ∷ qs) t e = go (q .answer) (zero-none qs (and-right (ltb 0 (q .number)) _ t)) e
+  where
+    go : (b : Bool) → (number (firstNo qs) ≡ 0 → firstNo qs ≡ none) → number (cond b (firstNo qs) (some (q .number))) ≡ 0 → cond b (firstNo qs) (some (q .number)) ≡ none
+    go true k e = k e
+    go false k e = absurd (omega (arith, ltb→lt 0 (q .number) (and-left (ltb 0 (q .number)) _ t)))
+
+-- bytes that nothing refuses have the answer Yes to each question
+pub record Accepted (bytes : List ℕ) : Type 0 where
+  pub counts : T (hasCounts bytes)
+  pub size : T (hasLength bytes)
+  pub priorities : T (hasPriorities bytes)
+  pub needs : T (hasNeeds bytes)
+
+pub accepted : (bytes : List ℕ) → refusal bytes ≡ none → Accepted bytes
+unfolding refusal questions
+accepted bytes e =
+    let r = each (hasCounts bytes) (hasLength bytes) (hasPriorities bytes) (hasNeeds bytes) (all-Yes (questions bytes) e) in
+    record { counts = r .0; size = r .1; priorities = r .2; needs = r .3 }
+  where
+    each : (a b c d : Bool) → T (a && (b && (c && (d && true)))) → T a × T b × T c × T d
+    each true true true true t = (tt, tt, tt, tt)
+    each true true true false t = absurd t
+    each true true false d t = absurd t
+    each true false c d t = absurd t
+    each false b c d t = absurd t
+
+-- the answer Yes to question 1, and to questions 1 and 2, in numbers
+pub in-range : (threads sections : ℕ) → T (inRange threads sections) → (threads ≤ 16) × (sections ≤ 16)
+in-range t s h =
+    let b : T (between 1 16 t) = and-left (between 1 16 t) (leb s 16) h in
+    (leb→le t 16 (and-right (leb 1 t) (leb t 16) b), leb→le s 16 (and-right (between 1 16 t) (leb s 16) h))
+
+pub has-two : (bytes : List ℕ) → T (hasCounts bytes) → 2 ≤ length bytes
+has-two bytes c = leb→le 2 (length bytes) (and-left (leb 2 (length bytes)) _ c)
+
+pub whole : (bytes : List ℕ) → T (hasCounts bytes) → T (hasLength bytes) → Whole bytes
+whole bytes c l =
+    let r = in-range (threadCount bytes) (sectionCount bytes) (and-right (leb 2 (length bytes)) _ c) in
+    record { threads = r .0; sections = r .1; size = eqb→eq (length bytes) _ l }
+
+-- with a base and a need listed for each thread, a plan is valid exactly if questions 1, 3 and 4 have the answer Yes
+pub valid-listed : (threads sections : ℕ) (base need : ℕ → ℕ)
+    → validPlan (record { sections = sections; bases = map base (upTo threads); needs = map need (upTo threads) })
+    ≡ inRange threads sections && all isPriority (map base (upTo threads)) && all (needsWithin sections) (map need (upTo threads))
+unfolding validPlan
+valid-listed n s f g = rw (length-listed f n, length-listed g n, is-true (eqb n n) (eqb-refl n), and-true (inRange n s))
+  where
+    and-true : (a : Bool) → a && true ≡ a
+    and-true true = refl
+    and-true false = refl

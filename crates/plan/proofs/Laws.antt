@@ -1,0 +1,48 @@
+-- What other crates may cite of plans.
+use mathlib.Core.Path.{_≡_}
+use mathlib.Core.Bool.{Bool, _&&_}
+use mathlib.Core.List.{List, map}
+use mathlib.Core.Option.{none}
+use Prim.Native.Nat.{ℕ, _<_}
+use lib.Dec.{T, leb}
+use lib.ListN.{length, getD}
+use Rattle.model.specs.Searches.{all, upTo}
+use Rattle.model.specs.Plan as model
+use Rattle.model.proofs.Tests.{and-left, and-right, and-both}
+use Rattle.plan.specs.declared.Plan.{Plan}
+use Rattle.plan.specs.Bytes.{threadCount, sectionCount, baseAt, needsAt, planOf, inRange, isPriority, needsWithin, hasPriorities, hasNeeds, questions, refusal, number}
+use Rattle.plan.specs.View.{inUse, view, Fits}
+use Rattle.plan.proofs.Loops.{listed, length-listed}
+use Rattle.plan.proofs.Answers.{zero-none, accepted, in-range, valid-listed}
+use Rattle.plan.proofs.Entries.{valid-view}
+
+-- `refusal` answers 0 only where nothing refuses the bytes, which is what `read` asks for
+pub refusal-zero : (bytes : List ℕ) → number (refusal bytes) ≡ 0 → refusal bytes ≡ none
+unfolding refusal questions
+refusal-zero bytes e = zero-none (questions bytes) tt e
+
+-- bytes that nothing refuses stand for a valid plan
+pub refusal-none-valid : (bytes : List ℕ) → refusal bytes ≡ none → T (model.validPlan (planOf bytes))
+refusal-none-valid bytes e =
+    let a = accepted bytes e in
+    let counts : Bool = inRange (threadCount bytes) (sectionCount bytes) in
+    let first : T counts = and-right (leb 2 (length bytes)) counts (a .counts) in
+    rw (valid-listed (threadCount bytes) (sectionCount bytes) (baseAt bytes) (needsAt bytes))
+    (and-both (counts && hasPriorities bytes) (hasNeeds bytes) (and-both counts (hasPriorities bytes) first (a .priorities)) (a .needs))
+
+-- a struct's plan has as many threads as the struct says
+pub threads-view : (p : Plan) → model.threads (view p) ≡ p .threads
+threads-view p = length-listed (λ t. getD (p .bases) t 0) (p .threads)
+
+-- A struct whose plan is valid has counts that fit its arrays. So `passes` is true exactly of a struct that fits and whose plan is valid.
+pub valid-fits : (p : Plan) → T (model.validPlan (view p)) → Fits p
+valid-fits p h =
+    let counts : Bool = inRange (p .threads) (p .sections) in
+    let bases : Bool = all isPriority (inUse (p .threads) (p .bases)) in
+    let needs : Bool = all (needsWithin (p .sections)) (inUse (p .threads) (p .needs)) in
+    let r = in-range (p .threads) (p .sections) (and-left counts bases (and-left (counts && bases) needs (rw (valid-view p) at h))) in
+    record { threads = r .0; sections = r .1 }
+
+-- the ceilings made once: entry s is the ceiling of section s
+pub ceilings-at : (p : model.Plan) (s : ℕ) → s < 16 → getD (map (model.ceiling p) (upTo 16)) s 0 ≡ model.ceiling p s
+ceilings-at p s h = listed (model.ceiling p) 16 s 0 h

@@ -1,0 +1,124 @@
+-- Laws of a loop that counts i up to n: what is done so far and the numbers that are left give the answer.
+use mathlib.Core.Path.{_≡_, refl, ap, sym, _∙_}
+use mathlib.Core.Bool.{Bool, true, false, cond, _&&_}
+use mathlib.Core.List.{List, [], _∷_, _++_, map, append-assoc, append-nil}
+use Prim.Native.Nat.{ℕ, zero, suc, _+_, _-_, _≤_, _<_, max}
+use native.Mathlib.Numerals.{add-one}
+use native.Mathlib.Omega.{arith}
+use lib.ListN.{length, getD, take, set, length-map, List·getD-eq-default}
+use lib.Seq.{take-suc-set, getD-take, length-take-le, ext-getD}
+use Rattle.model.specs.Searches.{all, filter, greatest, countFrom, upTo}
+use Rattle.plan.specs.View.{inUse}
+
+-- the numbers from i on that are below n
+abbrev pub left : (i n : ℕ) → List ℕ
+left i n = countFrom i (n - i)
+
+-- Whatever h makes of the numbers that are left: at the start, in a turn, and at the end of the loop. Every law below is made of these.
+module _ {ℓ} {R : Type ℓ} (h : List ℕ → R) (n : ℕ) where
+  pub begin : h (left 0 n) ≡ h (upTo n)
+  begin = let z : n - 0 ≡ n = omega arith in ap (λ k. h (countFrom 0 k)) z
+
+  pub turn : (i : ℕ) → i < n → h (left i n) ≡ h (i ∷ left (i + 1) n)
+  turn i k = let z : n - i ≡ suc (n - suc i) = omega arith in rw add-one (ap (λ j. h (countFrom i j)) z)
+
+  pub done : (i : ℕ) → n ≤ i → h (left i n) ≡ h []
+  done i k = let z : n - i ≡ 0 = omega arith in ap (λ j. h (countFrom i j)) z
+
+-- a loop that asks whether all pass: whether all that are left pass is whether all pass
+module _ {A : Type 0} (f : A → Bool) (g : ℕ → A) (n : ℕ) where
+  abbrev pub AllLeft : ℕ → Type 0
+  AllLeft i = all f (map g (left i n)) ≡ all f (map g (upTo n))
+
+  pub all-begin : AllLeft 0
+  all-begin = begin (λ l. all f (map g l)) n
+
+  module _ (i : ℕ) (k : i < n) (inv : AllLeft i) where
+    turned : f (g i) && all f (map g (left (i + 1) n)) ≡ all f (map g (upTo n))
+    turned = sym (turn (λ l. all f (map g l)) n i k) ∙ inv
+
+    pub passed : f (g i) ≡ true → AllLeft (i + 1)
+    passed e = rw e at turned
+
+    pub failed : f (g i) ≡ false → false ≡ all f (map g (upTo n))
+    failed e = rw e at turned
+
+  pub all-passed : (i : ℕ) → n ≤ i → AllLeft i → true ≡ all f (map g (upTo n))
+  all-passed i k inv = sym (done (λ l. all f (map g l)) n i k) ∙ inv
+
+-- a loop that finds the greatest value of those that pass: the greater of the top so far and the greatest of those left
+module _ (p : ℕ → Bool) (f : ℕ → ℕ) (n : ℕ) where
+  abbrev pub TopLeft : (i top : ℕ) → Type 0
+  TopLeft i top = max top (greatest f (filter p (left i n))) ≡ greatest f (filter p (upTo n))
+
+  pub top-begin : TopLeft 0 0
+  top-begin = omega (arith, begin (λ l. greatest f (filter p l)) n)
+
+  pub raised : (i top next : ℕ) → i < n → next ≡ cond (p i) (max top (f i)) top → TopLeft i top → TopLeft (i + 1) next
+  raised i top next k e inv = go (p i) refl
+    where
+      rest : List ℕ
+      rest = filter p (left (i + 1) n)
+
+      turned : greatest f (filter p (left i n)) ≡ greatest f (cond (p i) (i ∷ rest) rest)
+      turned = turn (λ l. greatest f (filter p l)) n i k
+
+      go : (b : Bool) → p i ≡ b → TopLeft (i + 1) next
+      go true q = omega (arith, rw q at turned, rw q at e)
+      go false q = omega (arith, rw q at turned, rw q at e)
+
+  pub topped : (i top : ℕ) → n ≤ i → TopLeft i top → top ≡ greatest f (filter p (upTo n))
+  topped i top k inv = omega (arith, done (λ l. greatest f (filter p l)) n i k)
+
+-- a loop that stores one entry in each turn: what is stored and what is left give the whole list
+module _ {A : Type 0} (g : ℕ → A) (n : ℕ) where
+  abbrev pub Filled : ℕ → List A → Type 0
+  Filled i items = take i items ++ map g (left i n) ≡ map g (upTo n)
+
+  pub fill-begin : Filled 0 []
+  fill-begin = begin (map g) n
+
+  pub stored : (i : ℕ) (items : List A) (a : A) → i < n → i < length items → a ≡ g i → Filled i items → Filled (i + 1) (set items i a)
+  stored i items a k h e inv =
+      rw (e, add-one, take-suc-set items i (g i) h, append-assoc, ← add-one i)
+      (sym (turn (λ l. take i items ++ map g l) n i k) ∙ inv)
+
+  pub full : (i : ℕ) (items : List A) → n ≤ i → Filled i items → take i items ≡ map g (upTo n)
+  full i items k inv = sym (append-nil (take i items)) ∙ sym (done (λ l. take i items ++ map g l) n i k) ∙ inv
+
+-- the entries of a list made by counting
+
+listed-from : {A : Type 0} (g : ℕ → A) (j n i : ℕ) (d : A) → i < n → getD (map g (countFrom j n)) i d ≡ g (j + i)
+listed-from g j zero i d h = absurd (omega arith)
+listed-from g j (suc n) zero d h = ap g (omega arith)
+listed-from g j (suc n) (suc i) d h = listed-from g (suc j) n i d (omega arith) ∙ ap g (omega arith)
+
+length-count : (i n : ℕ) → length (countFrom i n) ≡ n
+length-count i zero = refl
+length-count i (suc n) = ap suc (length-count (suc i) n)
+
+module _ {A : Type 0} (g : ℕ → A) (n : ℕ) where
+  pub listed : (i : ℕ) (d : A) → i < n → getD (map g (upTo n)) i d ≡ g i
+  listed i d h = listed-from g 0 n i d h ∙ ap g (omega arith)
+
+  pub length-listed : length (map g (upTo n)) ≡ n
+  length-listed = length-map (upTo n) g ∙ length-count 0 n
+
+  pub unlisted : (i : ℕ) (d : A) → n ≤ i → getD (map g (upTo n)) i d ≡ d
+  unlisted i d h = List·getD-eq-default (map g (upTo n)) d (omega (arith, length-listed))
+
+-- of an array that is long enough, the entries in use are the first ones
+pub in-use : (n : ℕ) (items : List ℕ) → n ≤ length items → inUse n items ≡ take n items
+in-use n items h =
+    ext-getD 0 (inUse n items) (take n items) (size ∙ sym (length-take-le n items h))
+    (λ i k. let b : i < n = omega (arith, size) in listed entry n i 0 b ∙ sym (getD-take n items i 0 b))
+  where
+    entry : ℕ → ℕ
+    entry t = getD items t 0
+
+    size : length (inUse n items) ≡ n
+    size = length-listed entry n
+
+-- so a loop that has stored an entry for each thread has made a list in use
+pub filled : (g : ℕ → ℕ) (n i : ℕ) (items : List ℕ) → i ≡ n → n ≤ length items → Filled g n i items → inUse n items ≡ map g (upTo n)
+filled g n i items e h inv = in-use n items h ∙ (rw e at (full g n i items (omega arith) inv))
