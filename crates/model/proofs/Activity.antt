@@ -14,7 +14,7 @@ use Rattle.model.specs.State.{Condition, dormant, ready, asleep, waiting
 use Rattle.model.specs.Words.{Is, ticks, CallOf, Calls, Starts, Wakes, Active}
 use Rattle.model.proofs.Tests.{equal?}
 use Rattle.model.proofs.Invariant.{tag, SoundState, Invariant}
-use Rattle.model.proofs.Nesting.{Rules}
+use Rattle.model.proofs.Nesting.{BlocksNow}
 use Rattle.model.proofs.Performed.{Caller}
 use Rattle.model.proofs.Turns.{Turn, same, starts, wakes, sleeps, stops, loses, inherits, turn, caller-ready, create-readies, delay-puts-to-sleep, tick-wakes}
 use Rattle.model.proofs.Holdings.{callNumber, Held, before, byTake, byGive, hold-from}
@@ -139,7 +139,7 @@ module _ (p : Plan) (rs : List Record) (tr : Trace p rs) where
       -- l neither waits nor blocks h
       pub record GivenWay (k : ℕ) : Type 0 where
         pub notWaiting : (s : ℕ) → condition (tr .at k) l ≡ waiting s → ⊥
-        pub notBlocking : Rules p (tr .at k) l h → ⊥
+        pub notBlocking : BlocksNow p (tr .at k) l h → ⊥
 
       -- then it does not call
       silent : (k : ℕ) → i < k → k ≤ c → GivenWay k → Caller p (tr .at k) l → ⊥
@@ -147,7 +147,7 @@ module _ (p : Plan) (rs : List Record) (tr : Trace p rs) where
 
       -- and so it stays: it cannot lose a Take, win one or be handed a section
       given-way-on : (k : ℕ) → i < k → k < c → GivenWay k → GivenWay (suc k)
-      given-way-on k o u q = record { notWaiting = λ s e. waits s e (turn-at p rs tr k k< l); notBlocking = λ b. holds b (hold-from p (tr .at k) (tr .moves k (r .0) (r .1)) (b .by) (b .held)) }
+      given-way-on k o u q = record { notWaiting = λ s e. waits s e (turn-at p rs tr k k< l); notBlocking = λ b. holds b (hold-from p (tr .at k) (tr .moves k (r .0) (r .1)) (b .barrier) (b .held)) }
         where
           k< : k < length rs
           k< = omega arith
@@ -167,10 +167,10 @@ module _ (p : Plan) (rs : List Record) (tr : Trace p rs) where
           waits s e (loses z rest y d f j) = silent k o (omega arith) q d
           waits s e (inherits g z rest y d f m j) = other s e f (omega arith)
 
-          holds : (b : Rules p (tr .at (suc k)) l h) → Held p (tr .at k) (r .0) (tr .at (suc k)) (b .by) → ⊥
-          holds b (before m f) = q .notBlocking (record { by = b .by; held = m; its = b .its; bars = b .bars })
+          holds : (b : BlocksNow p (tr .at (suc k)) l h) → Held p (tr .at k) (r .0) (tr .at (suc k)) (b .barrier) → ⊥
+          holds b (before m f) = q .notBlocking (record { barrier = b .barrier; held = m; its = b .its; bars = b .bars })
           holds b (byTake rest e f d g) = silent k o (omega arith) q (f ∙ ap {B = Option ℕ} some (b .its))
-          holds b (byGive z rest e f g d) = q .notWaiting (b .by .section) (subst (λ (t : ℕ). condition (tr .at k) t ≡ waiting (b .by .section)) (b .its) f)
+          holds b (byGive z rest e f g d) = q .notWaiting (b .barrier .section) (subst (λ (t : ℕ). condition (tr .at k) t ≡ waiting (b .barrier .section)) (b .its) f)
 
       given-way-through : (j : ℕ) → i < j → GivenWay j → (k : ℕ) → j ≤ k → k ≤ c → GivenWay k
       given-way-through j o q zero g u = absurd (omega arith)

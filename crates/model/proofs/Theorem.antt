@@ -17,7 +17,7 @@ use Rattle.model.specs.Words.{runner, CallOf, Holds, Waits, Blocks, afte
 use Rattle.model.specs.Promise.{LowerInWait, LowerInActive, Promise}
 use Rattle.model.proofs.Searches.{all-at}
 use Rattle.model.proofs.Invariant.{tag, Invariant}
-use Rattle.model.proofs.Nesting.{Rules, chosen-some}
+use Rattle.model.proofs.Nesting.{BlocksNow, chosen-some}
 use Rattle.model.proofs.Performed.{moves}
 use Rattle.model.proofs.Reached.{reached-invariant}
 use Rattle.model.proofs.Prefixes.{clean-steps, clean-before-breach, clean-reached}
@@ -65,7 +65,7 @@ module _ (p : Plan) (rs : List Record) (tr : Trace p rs) where
       i< : i < length rs
       i< = below rs i (call (Take (a .inWait .loses .section))) (a .inWait .loses .taken .made)
 
-      first : Rules p (tr .at (suc i)) x w
+      first : BlocksNow p (tr .at (suc i)) x w
       first = lower-blocks p rs tr w i x c a
 
   -- otherwise the lower thread has given way at once
@@ -75,7 +75,7 @@ module _ (p : Plan) (rs : List Record) (tr : Trace p rs) where
       n : c < length rs
       n = call-within p rs tr l c (a .calls)
 
-      go : ((s : ℕ) × (condition (tr .at (suc i)) l ≡ waiting s)) ⊎ ((s : ℕ) → condition (tr .at (suc i)) l ≡ waiting s → ⊥) → Rules p (tr .at (suc i)) l h ⊎ (Rules p (tr .at (suc i)) l h → ⊥) → ((j : ℕ) × Waits rs l j (suc i)) ⊎ Blocks rs p l h (suc i)
+      go : ((s : ℕ) × (condition (tr .at (suc i)) l ≡ waiting s)) ⊎ ((s : ℕ) → condition (tr .at (suc i)) l ≡ waiting s → ⊥) → BlocksNow p (tr .at (suc i)) l h ⊎ (BlocksNow p (tr .at (suc i)) l h → ⊥) → ((j : ℕ) × Waits rs l j (suc i)) ⊎ Blocks rs p l h (suc i)
       go (inl x) y = let f = waited-from p rs tr (suc i) (omega (arith, n, a .active .before)) l (x .0) (x .1) in inl (f .from, to-waits p rs tr (suc i) (x .0) l (call-moment p rs tr (suc i) l c (a .active .before) (a .calls)) f)
       go (inr x) (inl y) = inr (to-blocks p rs tr (suc i) l h (omega (arith, n, a .active .before)) (call-moment p rs tr (suc i) l c (a .active .before) (a .calls)) y)
       go (inr x) (inr y) = absurd (no-call-after p rs tr h i c (omega (arith, n)) (a .active) l (a .lower) (a .calls) (suc i) (omega arith) (a .active .before) (record { notWaiting = x; notBlocking = y }))
@@ -87,7 +87,7 @@ module _ (p : Plan) (rs : List Record) (tr : Trace p rs) where
       n : c < length rs
       n = call-within p rs tr l c (a .calls)
 
-      go : Rules p (tr .at (suc g)) l h ⊎ (Rules p (tr .at (suc g)) l h → ⊥) → Blocks rs p l h (suc g)
+      go : BlocksNow p (tr .at (suc g)) l h ⊎ (BlocksNow p (tr .at (suc g)) l h → ⊥) → Blocks rs p l h (suc g)
       go (inl y) = to-blocks p rs tr (suc g) l h (omega (arith, n)) (call-moment p rs tr (suc g) l c u (a .calls)) y
       go (inr y) = absurd (no-call-after p rs tr h i c (omega (arith, n)) (a .active) l (a .lower) (a .calls) (suc g) (omega arith) u (record { notWaiting = giver-not-waiting p rs tr l g s b; notBlocking = y }))
 

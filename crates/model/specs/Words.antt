@@ -110,7 +110,7 @@ module _ (rs : List Record) where
   pub record InWait (w i c : ℕ) : Type 0 where
     pub loses : Loses w i
     pub after : i < c
-    pub until : (g : ℕ) → Relieves w i g → c ≤ g
+    pub unrelieved : (g : ℕ) → Relieves w i g → c ≤ g
 
   -- Start: a Create naming the thread.
   abbrev pub Starts : (thread i : ℕ) → Type 0

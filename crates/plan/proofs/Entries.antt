@@ -1,14 +1,13 @@
--- The entries of a struct's arrays as parts of its plan: for code that reads an array itself.
+-- A struct's parts as parts of its plan: what the contracts over parts say of the whole.
 use mathlib.Core.Path.{_≡_, refl}
 use mathlib.Core.Bool.{_&&_}
-use Prim.Native.Nat.{ℕ, _<_}
+use Prim.Native.Nat.{ℕ}
 use lib.ListN.{getD}
 use Rattle.model.specs.Searches.{all}
 use Rattle.model.specs.Plan as model
 use Rattle.plan.specs.declared.Plan.{Plan}
 use Rattle.plan.specs.Bytes.{inRange, isPriority, needsWithin}
 use Rattle.plan.specs.View.{inUse, view, baseIn, mayTakeIn}
-use Rattle.plan.proofs.Loops.{listed}
 use Rattle.plan.proofs.Answers.{valid-listed}
 
 module _ (p : Plan) where
@@ -18,13 +17,6 @@ module _ (p : Plan) where
 
   pub mayTake-view : (t s : ℕ) → mayTakeIn (p .threads) (p .needs) t s ≡ model.mayTake (view p) t s
   mayTake-view t s = refl
-
-  -- the entry of a thread is its base, and its needs
-  pub base-entry : (t : ℕ) → t < p .threads → model.base (view p) t ≡ getD (p .bases) t 0
-  base-entry t h = listed (λ k. getD (p .bases) k 0) (p .threads) t 0 h
-
-  pub needs-entry : (t s : ℕ) → t < p .threads → model.mayTake (view p) t s ≡ model.bit (getD (p .needs) t 0) s
-  needs-entry t s h = rw (listed (λ k. getD (p .needs) k 0) (p .threads) t 0 h)
 
   -- what it takes to be valid, asked of a struct's numbers
   pub valid-view : model.validPlan (view p)
