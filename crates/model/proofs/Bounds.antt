@@ -78,15 +78,19 @@ distinct-sections : (hs : List Hold) → Pairwise OtherSection hs → Distinct (
 distinct-sections [] d = tt
 distinct-sections (h ∷ hs) d = (λ s m e. let r = of-map (λ (k : Hold). k .section) hs m in d .0 (r .0) (r .1) (e ∙ sym (r .2)), distinct-sections hs (d .1))
 
--- each section of the plan is held once at most
-pub holds-fit : (p : Plan) → T (validPlan p) → (st : State) → SoundState p st → length (st .holds) ≤ p .sections
-holds-fit p v st c = omega (arith, length-map (st .holds) section, pigeonhole (p .sections) (map section (st .holds)) (distinct-sections (st .holds) (c .heldOnce)) below)
+-- sections held once, all below n, are no more than n
+pub sections-fit : (n : ℕ) (hs : List Hold) → Pairwise OtherSection hs → ((h : Hold) → Mem h hs → h .section < n) → length hs ≤ n
+sections-fit n hs once below = omega (arith, length-map hs section, pigeonhole n (map section hs) (distinct-sections hs once) low)
   where
     section : Hold → ℕ
     section h = h .section
 
-    below : (s : ℕ) → Mem s (map section (st .holds)) → s < p .sections
-    below s m = let r = of-map section (st .holds) m in subst (λ (n : ℕ). n < p .sections) (r .2) (mayTake-below p v (r .0 .thread) (r .0 .section) (c .needed (r .0) (r .1)))
+    low : (s : ℕ) → Mem s (map section hs) → s < n
+    low s m = let r = of-map section hs m in omega (arith, below (r .0) (r .1), r .2)
+
+-- each section of the plan is held once at most
+pub holds-fit : (p : Plan) → T (validPlan p) → (st : State) → SoundState p st → length (st .holds) ≤ p .sections
+holds-fit p v st c = sections-fit (p .sections) (st .holds) (c .heldOnce) (λ h m. mayTake-below p v (h .thread) (h .section) (c .needed h m))
 
 -- the reports that become due
 

@@ -4,10 +4,13 @@
 pub use Rattle.model.proofs.Reached.{Reached, begin, next, reached-invariant}
 pub use Rattle.model.proofs.Kept.{start-has, step-keeps}
 -- how long the machine's lists get; whom the reports due name
-pub use Rattle.model.proofs.Bounds.{queue-fits, waits-fit, mayTake-below, holds-fit, due-fits, due-named}
+pub use Rattle.model.proofs.Bounds.{queue-fits, waits-fit, mayTake-below, sections-fit, holds-fit, due-fits, due-named}
+-- answer 12: what a well-formed state tells, and that every state reached is one
+pub use Rattle.model.proofs.Formed.{WellFormed, well-formed, passes-all}
+pub use Rattle.model.proofs.Lent.{reached-formed}
 -- nesting of holds; the owner is the last holder; a holder never loses a Take; what a Give ends and leaves
 pub use Rattle.model.proofs.Nesting.{holds-nest, owner-is-last-holder, chosen-below, holder-never-loses}
-pub use Rattle.model.proofs.Give.{give-ends-latest-hold, no-give-leaves-a-waiter-above}
+pub use Rattle.model.proofs.Give.{last-held, give-ends-latest-hold, no-give-leaves-a-waiter-above}
 -- a ceiling's whole law
 pub use Rattle.model.proofs.Ceiling.{ceiling-ge, ceiling-attained}
 -- the verdict of a list of records, and of its first records

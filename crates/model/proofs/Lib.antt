@@ -14,11 +14,14 @@ pub mod Performed
 pub mod Kept
 pub mod Reached
 pub mod Bounds
+pub mod Counting
+pub mod Formed
 pub mod Give
 -- what one record changes
 pub mod Turns
 pub mod Holdings
 pub mod Dues
+pub mod Lent
 -- whole lists of records
 pub mod Numbered
 pub mod Prefixes

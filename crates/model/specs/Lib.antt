@@ -7,6 +7,7 @@ pub mod Priorities
 pub mod Calls
 pub mod Rules
 pub mod Runs
+pub mod Formed
 pub mod Known
 pub mod Words
 pub mod Promise

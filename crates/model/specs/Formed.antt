@@ -1,0 +1,78 @@
+-- Answer 12: what is asked of a state that came from outside, in the words of document 01. Such a state need not be one that a run reaches.
+use mathlib.Core.Bool.{Bool, true, _&&_}
+use mathlib.Core.List.{List}
+use Prim.Native.Nat.{ℕ, _+_}
+use lib.Dec.{eqb, leb, ltb}
+use lib.ListN.{length}
+use Rattle.model.specs.Searches.{all, filter, upTo}
+use Rattle.model.specs.Plan.{Plan, threads, validPlan}
+use Rattle.model.specs.Records.{Report, report, isThread, allowed}
+use Rattle.model.specs.State.{Condition, dormant, ready, asleep, waiting, Hold, State, condition}
+
+-- the greatest tick number, and the greatest that a sleeper waits for
+abbrev pub lastTick : ℕ
+lastTick = 4000000000
+
+abbrev pub lastWake : ℕ
+lastWake = 4000065536
+
+-- A number is out of range: a thread or section is not below T or S, a report is not one of this paper's, the tick number is above
+-- 4,000,000,000 or a sleeper's above 4,000,065,536.
+
+abbrev pub conditionInRange : (sections : ℕ) → Condition → Bool
+conditionInRange sections dormant = true
+conditionInRange sections ready = true
+conditionInRange sections (asleep n) = leb n lastWake
+conditionInRange sections (waiting s) = ltb s sections
+
+abbrev pub areThreads : (threads : ℕ) → List ℕ → Bool
+areThreads threads ts = all (λ t. ltb t threads) ts
+
+abbrev pub holdInRange : (threads sections : ℕ) → Hold → Bool
+holdInRange threads sections h = ltb (h .section) sections && ltb (h .thread) threads
+
+abbrev pub numbersInRange : Plan → State → Bool
+numbersInRange p st =
+    leb (st .tickNumber) lastTick
+    && isThread p (st .reported)
+    && all (conditionInRange (p .sections)) (st .conditions)
+    && areThreads (threads p) (st .queue)
+    && areThreads (threads p) (st .waits)
+    && all (holdInRange (threads p) (p .sections)) (st .holds)
+
+-- how many of them pass the test
+abbrev pub times : {A : Type 0} → (A → Bool) → List A → ℕ
+times f l = length (filter f l)
+
+-- A section is held twice.
+abbrev pub heldOnce : (sections : ℕ) → List Hold → Bool
+heldOnce sections hs = all (λ s. leb (times (λ (h : Hold). eqb (h .section) s) hs) 1) (upTo sections)
+
+-- how often a thread stands in the line and in the waits: once in the one if it is ready, once in the other if it waits
+
+abbrev pub inQueue : Condition → ℕ
+inQueue dormant = 0
+inQueue ready = 1
+inQueue (asleep n) = 0
+inQueue (waiting s) = 0
+
+abbrev pub inWaits : Condition → ℕ
+inWaits dormant = 0
+inWaits ready = 0
+inWaits (asleep n) = 0
+inWaits (waiting s) = 1
+
+-- A thread is listed twice in the line or the waits, or is not in exactly one of its four conditions.
+abbrev pub standsOnce : (queue waits : List ℕ) → Condition → (thread : ℕ) → Bool
+standsOnce queue waits c t = eqb (times (λ u. eqb u t) queue) (inQueue c) && eqb (times (λ u. eqb u t) waits) (inWaits c)
+
+abbrev pub allStandOnce : Plan → State → Bool
+allStandOnce p st = all (λ t. standsOnce (st .queue) (st .waits) (condition st t) t) (upTo (threads p))
+
+-- A report is not one of this paper's, or more than T + 1 are due.
+abbrev pub dueInRange : Plan → List Report → Bool
+dueInRange p due = leb (length due) (threads p + 1) && all (λ d. allowed p (report d)) due
+
+-- the answer is not 12
+unfoldable pub formed : Plan → State → Bool
+formed p st = validPlan p && numbersInRange p st && heldOnce (p .sections) (st .holds) && allStandOnce p st && dueInRange p (st .due)
