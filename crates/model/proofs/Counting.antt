@@ -56,9 +56,10 @@ module _ {A : Type 0} where
 
     pub once-apart : (l : List A) → ((a : A) → Mem a l → of (key a) l ≤ 1) → Pairwise Apart l
     once-apart [] h = tt
-    once-apart (a ∷ l) h =
-        (λ b i e. omega (arith, h a (here refl), more a l, counted (λ c. eqb (key c) (key a)) l i (eq-test (key b) (key a) (sym e))),
-        once-apart l (λ b i. omega (arith, h b (there i), fewer a l (key b))))
+    once-apart (a ∷ l) h = (
+      λ b i e. omega (arith, h a (here refl), more a l, counted (λ c. eqb (key c) (key a)) l i (eq-test (key b) (key a) (sym e))),
+      once-apart l (λ b i. omega (arith, h b (there i), fewer a l (key b))),
+    )
 
     pub apart-once : (l : List A) → Pairwise Apart l → (t : ℕ) → of t l ≤ 1
     apart-once [] d t = omega arith
