@@ -81,11 +81,11 @@ all-yes (q ∷ qs) e = go (q .answer) e (λ i. all-yes qs i)
     go true i k = (tt, k i)
     go false i k = absurd (Option·some-ne-none (q .number) i)
 
-somebody : (o : Option ℕ) → T (isSomebody o) → (x : ℕ) × (o ≡ some x)
+pub somebody : (o : Option ℕ) → T (isSomebody o) → (x : ℕ) × (o ≡ some x)
 somebody none t = absurd t
 somebody (some x) t = (x, refl)
 
-dormant-is : (k : Condition) → T (isDormant k) → k ≡ dormant
+pub dormant-is : (k : Condition) → T (isDormant k) → k ≡ dormant
 dormant-is dormant t = refl
 dormant-is ready t = absurd t
 dormant-is (asleep n) t = absurd t

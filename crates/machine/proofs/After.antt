@@ -1,0 +1,236 @@
+-- What a call leaves of a well-formed machine: enough to find the chosen thread and to ask about the Switch, though a section may be held twice.
+use mathlib.Core.Path.{_≡_, refl, ap, sym, subst, _∙_}
+use mathlib.Core.Logic.{_⊎_, inl, inr}
+use mathlib.Core.Bool.{Bool, true, false, cond, not}
+use mathlib.Core.List.{List, [], _∷_, _++_, map, List·Memᴰ as Mem, List·Memᴰ·append-cases as append-cases, List·Memᴰ·eq-of-singleton as single}
+use mathlib.Core.Option.{Option, none, some}
+use Prim.Native.Nat.{ℕ, suc, _+_, _≤_, _<_}
+use native.Mathlib.Omega.{arith}
+use lib.Dec.{T}
+use lib.ListN.{length, length-append, length-map}
+use Rattle.model.specs.Searches.{_▷_, filter, upTo, without}
+use Rattle.model.specs.Plan.{base, ceiling, validPlan}
+use Rattle.model.specs.Records.{Ready, Won, Lost, Yield}
+use Rattle.model.specs.State.{Condition, dormant, asleep, waiting, State, condition, latestSwitch, lastReported, becomes, leaveQueue, joinQueue, arrive, joinWaits, leaveWaits, isHold, beginHold, endHold, owe}
+use Rattle.model.specs.Priorities.{chosen}
+use Rattle.model.specs.Calls.{create, sleepers, tick, delay, rivalled, relinquish, end, aboveAll, heldByOthers, take, wanted, heir, handOver, give, switch}
+use Rattle.model.proofs.Searches.{greatest-is, stayed, distinct-without}
+use Rattle.model.proofs.Nesting.{chosen-is}
+use Rattle.model.proofs.Kept.{sleeper}
+use Rattle.plan.specs.View as plans
+use Rattle.plan.specs.declared.Plan.{Plan}
+use Rattle.plan.proofs.Laws.{threads-view}
+use Rattle.machine.specs.declared.Machine.{Machine}
+use Rattle.machine.specs.declared.calls.Called.{Called}
+use Rattle.machine.specs.Lists.{numbered, queued, held, owed}
+use Rattle.machine.specs.View.{planOf, viewed, idle}
+use Rattle.machine.specs.Contracts.{Creates, Ticks, Runs, Takes, Gives, Ceilings, Chooses, Meets, Unswitched, Switches}
+use Rattle.machine.proofs.Facts.{Facts, facts}
+use Rattle.machine.proofs.Views.{length-queued, length-held, length-owed}
+use Rattle.machine.proofs.Room.{waiting-known, threads-fit, waiting-fits, waiting-room, woken-room, create-room, caller-fits, without-room, waits-room, take-room, give-room}
+use Rattle.machine.proofs.Chosen.{listed}
+
+-- the lists fit their arrays, fewer than 17 reports are due, and none of them is a Switch: the thread last reported is still the one reported
+pub record After (st : State) : Type 0 where
+  pub queue' : length (st .queue) ≤ 16
+  pub holds' : length (st .holds) ≤ 16
+  pub waits' : length (st .waits) ≤ 16
+  pub known : (t : ℕ) → Mem t (st .queue) → t < 16
+  pub few : length (st .due) < 17
+  pub last : lastReported st ≡ st .reported
+
+-- the lists fit before the call, with nothing due
+before : {m : Machine} → Facts m → After (idle m)
+before {m} f =
+    let l = listed f in
+    record {
+      queue' = omega (arith, length-queued (m .queue), l .queue');
+      holds' = omega (arith, length-held (m .holds), l .holds');
+      waits' = omega (arith, length-queued (m .waits), l .waits');
+      known = l .known;
+      few = omega arith;
+      last = refl;
+    }
+
+-- a list with one more at its end
+
+one-longer : (l : List ℕ) (t : ℕ) → length l < 16 → length (l ++ t ∷ []) ≤ 16
+one-longer l t h = omega (arith, length-append l (t ∷ []))
+
+known-more : (l more : List ℕ) → ((t : ℕ) → Mem t l → t < 16) → ((t : ℕ) → Mem t more → t < 16) → (t : ℕ) → Mem t (l ++ more) → t < 16
+known-more l more old new t i = go (append-cases l i)
+  where
+    go : Mem t l ⊎ Mem t more → t < 16
+    go (inl j) = old t j
+    go (inr j) = new t j
+
+known-one : (u : ℕ) → u < 16 → (t : ℕ) → Mem t (u ∷ []) → t < 16
+known-one u h t i = omega (arith, single i)
+
+-- what a test leaves, by both its answers
+either : (b : Bool) {yes other : State} → (T b → After yes) → (T (not b) → After other) → After (cond b yes other)
+either true y n = y tt
+either false y n = n tt
+
+pub created : {m : Machine} {t : ℕ} → Creates m t → After (create t (idle m))
+unfolding create
+created {m} {t} c =
+    let f = facts (c .formed) in
+    record {
+      queue' = one-longer (queued (m .queue)) t (omega (arith, length-queued (m .queue), create-room c));
+      holds' = before f .holds';
+      waits' = before f .waits';
+      known = known-more (queued (m .queue)) (t ∷ []) (before f .known) (known-one t (omega (arith, c .known, f .fits .threads)));
+      few = omega arith;
+      last = refl;
+    }
+
+-- Ready is no Switch
+all-ready : (w : Option ℕ) (ts : List ℕ) → latestSwitch w (map Ready ts) ≡ w
+all-ready w [] = refl
+all-ready w (t ∷ ts) = all-ready w ts
+
+pub ticked : {m : Machine} → Ticks m → After (tick (idle m))
+unfolding tick
+ticked {m} c =
+    let f = facts (c .formed) in
+    let woken = sleepers (suc (m .tick .0)) (idle m) in
+    let room = woken-room f (suc (m .tick .0)) in
+    record {
+      queue' = omega (arith, length-append (queued (m .queue)) woken, room);
+      holds' = before f .holds';
+      waits' = before f .waits';
+      known = known-more (queued (m .queue)) woken (before f .known) (λ t i. omega (arith, sleeper (suc (m .tick .0)) (idle m) t i .0, f .agree .sized, threads-view (m .plan), f .fits .threads));
+      few = omega (arith, length-map woken Ready, room);
+      last = all-ready (idle m .reported) woken;
+    }
+
+module _ {m : Machine} {x : ℕ} (r : Runs m x) where
+  known-without : (t : ℕ) → Mem t (without x (queued (m .queue))) → t < 16
+  known-without t i = before (facts (r .formed)) .known t (stayed x (queued (m .queue)) i .0)
+
+  queue-without : length (without x (queued (m .queue))) ≤ 16
+  queue-without = omega (arith, without-room r)
+
+  -- the caller leaves the queue, and no report is due
+  leaves : (c : Condition) → After (idle m ▷ leaveQueue x ▷ becomes c x)
+  leaves c =
+      let f = facts (r .formed) in
+      record { queue' = queue-without; holds' = before f .holds'; waits' = before f .waits'; known = known-without; few = omega arith; last = refl }
+
+  pub delayed : (n : ℕ) → After (delay x n (idle m))
+  unfolding delay
+  delayed n = leaves (asleep (m .tick .0 + n + 1))
+
+  pub ended : After (end x (idle m))
+  unfolding end
+  ended = leaves dormant
+
+  pub relinquished : After (relinquish (planOf m) x (idle m))
+  unfolding relinquish
+  relinquished = either (rivalled (planOf m) x (idle m)) (λ b. yields) (λ b. before (facts (r .formed)))
+    where
+      yields : After (idle m ▷ leaveQueue x ▷ joinQueue x ▷ owe (Yield x ∷ []))
+      yields =
+          let f = facts (r .formed) in
+          record {
+            queue' = one-longer (without x (queued (m .queue))) x (without-room r);
+            holds' = before f .holds';
+            waits' = before f .waits';
+            known = known-more (without x (queued (m .queue))) (x ∷ []) known-without (known-one x (caller-fits r));
+            few = omega arith;
+            last = refl;
+          }
+
+pub taken : {m : Machine} {x s : ℕ} → Takes m x s → After (take (planOf m) x s (idle m))
+unfolding take
+taken {m} {x} {s} t = either (aboveAll (planOf m) x (heldByOthers x (held (m .holds)))) wins (λ b. loses)
+  where
+    f : Facts m
+    f = facts (t .runs .formed)
+
+    wins : T (aboveAll (planOf m) x (heldByOthers x (held (m .holds)))) → After (idle m ▷ beginHold s x ▷ owe (Won x ∷ []))
+    wins b = record {
+      queue' = before f .queue';
+      holds' = omega (arith, length-held (m .holds), take-room t b);
+      waits' = before f .waits';
+      known = before f .known;
+      few = omega arith;
+      last = refl;
+    }
+
+    loses : After (idle m ▷ leaveQueue x ▷ becomes (waiting s) x ▷ joinWaits x ▷ owe (Lost x ∷ []))
+    loses = record {
+      queue' = queue-without (t .runs);
+      holds' = before f .holds';
+      waits' = one-longer (queued (m .waits)) x (omega (arith, length-queued (m .waits), waits-room (t .runs)));
+      known = known-without (t .runs);
+      few = omega arith;
+      last = refl;
+    }
+
+pub given : {m : Machine} {x s : ℕ} → Gives m x s → After (give (planOf m) x s (idle m))
+unfolding give
+given {m} {x} {s} g = handed (heir (planOf m) (idle m)) (λ w e. greatest-is (base (planOf m)) (queued (m .waits)) w e .0)
+  where
+    f : Facts m
+    f = facts (g .runs .formed)
+
+    -- the hold has ended, and the heir does not inherit
+    frees : After (idle m ▷ endHold s x)
+    frees = record { queue' = before f .queue'; holds' = omega (arith, give-room g); waits' = before f .waits'; known = before f .known; few = omega arith; last = refl }
+
+    refuses : (w : ℕ) → After (idle m ▷ endHold s x ▷ owe (Lost w ∷ []))
+    refuses w = record { queue' = frees .queue'; holds' = frees .holds'; waits' = frees .waits'; known = frees .known; few = omega arith; last = refl }
+
+    passes : (w : ℕ) → Mem w (queued (m .waits)) → After (idle m ▷ endHold s x ▷ leaveWaits w ▷ beginHold (wanted (condition (idle m) w)) w ▷ arrive (w ∷ []) ▷ owe (Won w ∷ Ready w ∷ []))
+    passes w i = record {
+      queue' = one-longer (queued (m .queue)) w (omega (arith, length-queued (m .queue), waiting-room f w i));
+      holds' = omega (arith, give-room g);
+      waits' = threads-fit f (without w (queued (m .waits))) (distinct-without w (queued (m .waits)) (f .agree .waitsOnce)) (λ t j. waiting-known f t (stayed w (queued (m .waits)) j .0));
+      known = known-more (queued (m .queue)) (w ∷ []) (before f .known) (known-one w (waiting-fits f w i));
+      few = omega arith;
+      last = refl;
+    }
+
+    handed : (o : Option ℕ) → ((w : ℕ) → o ≡ some w → Mem w (queued (m .waits))) → After (handOver (planOf m) o (idle m ▷ endHold s x))
+    handed none waits = frees
+    handed (some w) waits = either (aboveAll (planOf m) w (filter (λ h. not (isHold s x h)) (held (m .holds)))) (λ b. passes w (waits w refl)) (λ b. refuses w)
+
+-- What a call hands back, where its machine and reports stand for such a state.
+
+plan-kept : {m : Machine} {st : State} (r : Called) → Meets r m st → planOf (r .machine) ≡ planOf m
+plan-kept r k = ap plans.view (k .plan')
+
+queue-known : {m : Machine} {st : State} (r : Called) → Meets r m st → After st → (t : ℕ) → Mem t (queued (r .machine .queue)) → t < 16
+queue-known r k a t i = a .known t (subst (λ (l : List ℕ). Mem t l) (ap (λ (z : State). z .queue) (k .seen)) i)
+
+-- it has what finding the chosen thread asks
+pub chooses : {m : Machine} {st : State} (r : Called) → Facts m → Meets r m st → After st → (ceilings : List ℕ) → Ceilings m ceilings → Chooses (r .machine) ceilings
+chooses r f k a ceilings c =
+    record {
+      valid = subst (λ p. T (validPlan p)) (sym (plan-kept r k)) (f .valid);
+      listed =
+          record {
+            threads' = omega (arith, ap (λ (p : Plan). p .threads) (k .plan'), f .fits .threads);
+            queue' = omega (arith, length-queued (r .machine .queue), ap (λ (z : State). length (z .queue)) (k .seen), a .queue');
+            holds' = omega (arith, length-held (r .machine .holds), ap (λ (z : State). length (z .holds)) (k .seen), a .holds');
+            waits' = omega (arith, length-queued (r .machine .waits), ap (λ (z : State). length (z .waits)) (k .seen), a .waits');
+            known = queue-known r k a;
+          };
+      ceilings' = c ∙ ap (λ p. map (ceiling p) (upTo 16)) (sym (plan-kept r k));
+    }
+
+-- and then, with the number of the chosen thread, what the Switch asks
+pub unswitched-after : {m : Machine} {st : State} (r : Called) → Meets r m st → After st → (who : ℕ) → who ≡ numbered (chosen (planOf (r .machine)) (idle (r .machine))) → Unswitched r who
+unswitched-after r k a who e =
+    record {
+      room = omega (arith, length-owed (r .reports), ap (λ (z : State). length (z .due)) (k .seen), a .few);
+      known = λ t q. queue-known r k a t (chosen-is (planOf (r .machine)) (idle (r .machine)) t q .0);
+      chosen' = e;
+      last = ap lastReported (k .seen) ∙ a .last ∙ sym (ap (λ (z : State). z .reported) (k .seen));
+    }
+
+-- a call with its Switch: where `st` is `perform p k (idle m)`, the right-hand side is `effect p (call k) (idle m)`
+pub effected : {m : Machine} {st : State} (r c : Called) → Meets r m st → Switches c r → viewed (c .machine) (owed (c .reports)) ≡ switch (planOf m) st
+effected {m} r c k z = z .seen ∙ ap (λ p. switch p (viewed (r .machine) (owed (r .reports)))) (plan-kept r k) ∙ ap (switch (planOf m)) (k .seen)

@@ -1,0 +1,43 @@
+-- What is known of a well-formed machine.
+use mathlib.Core.Path.{_≡_, sym, _∙_}
+use mathlib.Core.List.{List·Memᴰ as Mem}
+use Prim.Native.Nat.{ℕ, _≤_, _<_}
+use native.Mathlib.Omega.{arith}
+use lib.Dec.{T}
+use lib.ListN.{getD}
+use Rattle.model.specs.Plan.{validPlan}
+use Rattle.model.specs.State.{waiting, Hold, condition}
+use Rattle.model.specs.Formed.{lastTick}
+use Rattle.model.proofs.Searches.{Pairwise}
+use Rattle.model.proofs.Invariant.{OtherSection, Agree}
+use Rattle.model.proofs.Formed.{well-formed}
+use Rattle.plan.specs.View.{Fits}
+use Rattle.plan.proofs.Loops.{length-listed}
+use Rattle.plan.proofs.Laws.{threads-view, valid-fits}
+use Rattle.machine.specs.declared.Machine.{Machine}
+use Rattle.machine.specs.View.{conditionOf, noSlot, planOf, idle}
+use Rattle.machine.specs.Contracts.{Formed}
+
+pub record Facts (m : Machine) : Type 0 where
+  pub fits : Fits (m .plan)
+  pub valid : T (validPlan (planOf m))
+  -- conditions and lists agree, and no thread is listed twice
+  pub agree : Agree (planOf m) (idle m .conditions) (idle m .queue) (idle m .waits)
+  -- no section is held twice, and each hold is of a section and a thread of the plan
+  pub heldOnce : Pairwise OtherSection (idle m .holds)
+  pub held : (h : Hold) → Mem h (idle m .holds) → (h .section < m .plan .sections) × (h .thread < m .plan .threads)
+  pub wants : (t s : ℕ) → condition (idle m) t ≡ waiting s → s < m .plan .sections
+  pub tick : m .tick .0 ≤ lastTick
+
+pub facts : {m : Machine} → Formed m → Facts m
+facts {m} f =
+    let w = well-formed (planOf m) (idle m) (length-listed (λ t. conditionOf (getD (m .slots) t noSlot)) (m .plan .threads) ∙ sym (threads-view (m .plan))) (f .passes) in
+    record {
+      fits = valid-fits (m .plan) (w .valid);
+      valid = w .valid;
+      agree = w .agree;
+      heldOnce = w .heldOnce';
+      held = λ h i. let r = w .held h i in (r .0, omega (arith, threads-view (m .plan), r .1));
+      wants = w .wants;
+      tick = w .tick;
+    }

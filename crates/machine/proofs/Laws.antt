@@ -1,0 +1,49 @@
+-- What other crates may cite of the machine. Nothing here speaks of arrays: a state is known by the plan that it carries and the model's state
+-- that it stands for.
+use mathlib.Core.Path.{_≡_, ap, sym, _∙_}
+use mathlib.Core.Logic.{_⊎_, inl, inr, _≢_}
+use mathlib.Core.Bool.{cond}
+use mathlib.Core.List.{List, map}
+use Prim.Native.Nat.{ℕ, _≤_}
+use borrow.Author.Tests.{eq-eqb, ne-eqb}
+use lib.Dec.{T}
+use Rattle.model.specs.Searches.{upTo}
+use Rattle.model.specs.Plan as model
+use Rattle.model.specs.Runs.{moved, broke, step}
+use Rattle.model.specs.Formed.{lastTick, formed}
+use Rattle.model.proofs.Tests.{equal?}
+use Rattle.model.proofs.Laws.{Reached, reached-formed}
+use Rattle.plan.specs.View as plans
+use Rattle.plan.specs.declared.Plan.{Plan}
+use Rattle.machine.specs.declared.Machine.{Machine}
+use Rattle.machine.specs.declared.rules.Record.{Record}
+use Rattle.machine.specs.declared.state.State.{State}
+use Rattle.machine.specs.declared.step.Stepped.{Stepped}
+use Rattle.machine.specs.View.{planOf, view}
+use Rattle.machine.specs.Contracts.{Ceilings, Chooses}
+use Rattle.machine.specs.Steps.{recordOf, Answers}
+use Rattle.machine.proofs.Facts.{facts}
+use Rattle.machine.proofs.Chosen.{listed}
+use Rattle.machine.proofs.Owing.{unowed}
+-- who is chosen does not depend on what is due
+pub use Rattle.machine.proofs.Switched.{chosen-due}
+
+-- a state that stands for one that a run reaches is well formed, up to the last tick number
+pub stands-formed : (s : State) → T (model.validPlan (planOf (s .machine))) → Reached (planOf (s .machine)) (view s) → view s .tickNumber ≤ lastTick → T (formed (planOf (s .machine)) (view s))
+stands-formed s v r k = reached-formed (planOf (s .machine)) v (view s) r k
+
+-- in a well-formed state the chosen thread can be asked for, with the ceilings of its plan beside it
+pub asks-chosen : (s : State) (ceilings : List ℕ) → T (formed (planOf (s .machine)) (view s)) → Ceilings (s .machine) ceilings → Chooses (s .machine) ceilings
+asks-chosen s ceilings f c = let k = facts (unowed s f) in record { valid = k .valid; listed = listed k; ceilings' = c }
+
+-- the ceilings made once of a plan are those that every state carrying it asks for
+pub ceilings-of : (m : Machine) (p : Plan) (ceilings : List ℕ) → m .plan ≡ p → ceilings ≡ map (model.ceiling (plans.view p)) (upTo 16) → Ceilings m ceilings
+ceilings-of m p ceilings e c = c ∙ ap (λ (q : Plan). map (model.ceiling (plans.view q)) (upTo 16)) (sym e)
+
+-- a step moves as the model's does, or answers its rule and leaves the state as it came
+pub stepped : (r : Stepped) (s : State) (x : Record) → Answers r s x → (step (planOf (s .machine)) (view s) (recordOf x) ≡ moved (view (r .state))) ⊎ ((step (planOf (s .machine)) (view s) (recordOf x) ≡ broke (r .rule)) × (r .state ≡ s))
+stepped r s x a = go (equal? (r .rule) 0)
+  where
+    go : (r .rule ≡ 0) ⊎ (r .rule ≢ 0) → (step (planOf (s .machine)) (view s) (recordOf x) ≡ moved (view (r .state))) ⊎ ((step (planOf (s .machine)) (view s) (recordOf x) ≡ broke (r .rule)) × (r .state ≡ s))
+    go (inl e) = inl (sym (a .outcome) ∙ ap (λ b. cond b (moved (view (r .state))) (broke (r .rule))) (eq-eqb (r .rule) 0 e))
+    go (inr d) = inr (sym (a .outcome) ∙ ap (λ b. cond b (moved (view (r .state))) (broke (r .rule))) (ne-eqb (r .rule) 0 d), a .kept d)

@@ -1,0 +1,23 @@
+-- What holds of this crate's definitions, and the laws that its proofs share. Laws is what other crates may cite.
+pub mod Arrays
+pub mod Queues
+pub mod Sized
+pub mod Conditions
+pub mod Holdings
+pub mod Heirs
+pub mod Views
+pub mod Facts
+pub mod Room
+pub mod Chosen
+pub mod Meets
+pub mod Switched
+pub mod Woken
+pub mod After
+pub mod Outside
+pub mod Lent
+pub mod ReportKinds
+pub mod Owing
+pub mod Questions
+pub mod Stepping
+pub mod Outcomes
+pub mod Laws

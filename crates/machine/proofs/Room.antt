@@ -1,0 +1,172 @@
+-- No list grows past its room: each thread stands once in the queue or in the waits, and each section is held once.
+use mathlib.Core.Path.{_≡_, refl, ap, sym, _∙_}
+use mathlib.Core.Logic.{_⊎_, inl, inr, _≢_}
+use mathlib.Core.Bool.{Bool, not}
+use mathlib.Core.List.{List, _∷_, _++_, List·Memᴰ as Mem, List·Memᴰ·cases-cons as cases-cons, List·Memᴰ·append-cases as append-cases, Memᴰ·cast as cast}
+use Prim.Native.Nat.{ℕ, _+_, _≤_, _<_}
+use native.Mathlib.Omega.{arith}
+use lib.Dec.{T, eqb, ltb, ltb→lt, T-not}
+use lib.ListN.{length, length-append}
+use Rattle.model.specs.Searches.{filter, upTo, without}
+use Rattle.model.specs.Plan.{base, ceiling}
+use Rattle.model.specs.State.{ready, Hold, hold, isHold, condition}
+use Rattle.model.specs.Priorities.{heldCeiling}
+use Rattle.model.specs.Calls.{sleepsUntil, sleepers, aboveAll, heldByOthers, wanted}
+use Rattle.model.proofs.Tests.{and-both, eq-test, ne-test, equal?}
+use Rattle.model.proofs.Searches.{all-at, any-fails, filtered, in-filter, Pairwise, pairwise-filter, pairwise-append, pairwise-at, Distinct, stayed, distinct-without, upTo-distinct, pigeonhole}
+use Rattle.model.proofs.Ceiling.{ceiling-ge}
+use Rattle.model.proofs.Invariant.{tag, OtherSection}
+use Rattle.model.proofs.Nesting.{chosen-is}
+use Rattle.model.proofs.Kept.{sleeper}
+use Rattle.model.proofs.Bounds.{queued-below, waiting-below, sections-fit}
+use Rattle.model.proofs.Give.{last-held}
+use Rattle.plan.proofs.Laws.{threads-view}
+use Rattle.machine.specs.declared.Machine.{Machine}
+use Rattle.machine.specs.Lists.{queued, held}
+use Rattle.machine.specs.View.{planOf, idle}
+use Rattle.machine.specs.Contracts.{Creates, Runs, Takes, Gives}
+use Rattle.machine.proofs.Facts.{Facts, facts}
+use Rattle.machine.proofs.Views.{length-queued, length-held}
+
+module _ {m : Machine} (f : Facts m) where
+  pub queued-known : (t : ℕ) → Mem t (queued (m .queue)) → t < m .plan .threads
+  queued-known t i = omega (arith, threads-view (m .plan), queued-below (planOf m) (f .agree) t i)
+
+  pub waiting-known : (t : ℕ) → Mem t (queued (m .waits)) → t < m .plan .threads
+  waiting-known t i = omega (arith, threads-view (m .plan), waiting-below (planOf m) (f .agree) t i)
+
+  -- a list of threads without repeats fits, and so it does with one more that is not in it
+  pub threads-fit : (l : List ℕ) → Distinct l → ((t : ℕ) → Mem t l → t < m .plan .threads) → length l ≤ 16
+  threads-fit l once known = omega (arith, f .fits .threads, pigeonhole (m .plan .threads) l once known)
+
+  one-more : (t : ℕ) (l : List ℕ) → Distinct l → ((u : ℕ) → Mem u l → u < m .plan .threads) → t < m .plan .threads → (Mem t l → ⊥) → length l < 16
+  one-more t l once known h new = threads-fit (t ∷ l) (λ u i e. new (cast e i), once) (λ u i. below u (cases-cons i))
+    where
+      below : (u : ℕ) → (u ≡ t) ⊎ Mem u l → u < m .plan .threads
+      below u (inl e) = omega arith
+      below u (inr i) = known u i
+
+  -- a thread that is not ready is not in the queue, which therefore has room for it
+  pub queue-room : (t : ℕ) → t < m .plan .threads → (condition (idle m) t ≡ ready → ⊥) → m .queue .count < 16
+  queue-room t h rests = omega (arith, length-queued (m .queue), one-more t (queued (m .queue)) (f .agree .queueOnce) queued-known h (λ i. rests (f .agree .queued t i)))
+
+  -- a waiting thread
+
+  pub waiting-fits : (w : ℕ) → Mem w (queued (m .waits)) → w < 16
+  waiting-fits w i = omega (arith, waiting-known w i, f .fits .threads)
+
+  pub waiting-room : (w : ℕ) → Mem w (queued (m .waits)) → m .queue .count < 16
+  waiting-room w i = queue-room w (waiting-known w i) (λ e. omega (arith, ap tag (sym e ∙ f .agree .waiting' w i .1)))
+
+  pub wanted-small : (w : ℕ) → Mem w (queued (m .waits)) → wanted (condition (idle m) w) < 16
+  wanted-small w i = let r = f .agree .waiting' w i in rw (r .1) (omega (arith, f .wants w (r .0) (r .1), f .fits .sections))
+
+  -- the sleepers of a tick number are not in the queue, which therefore has room for all of them
+  pub woken-room : (n : ℕ) → length (queued (m .queue)) + length (sleepers n (idle m)) ≤ 16
+  woken-room n = omega (arith, length-append queue woken, threads-fit (queue ++ woken) (pairwise-append (λ (a b : ℕ). a ≢ b) queue woken (f .agree .queueOnce) once apart) (λ t i. known t (append-cases queue i)))
+    where
+      queue : List ℕ
+      queue = queued (m .queue)
+
+      woken : List ℕ
+      woken = sleepers n (idle m)
+
+      once : Distinct woken
+      once = pairwise-filter (λ (a b : ℕ). a ≢ b) (λ u. sleepsUntil n (condition (idle m) u)) (upTo (length (idle m .conditions))) (upTo-distinct (length (idle m .conditions)))
+
+      apart : (a b : ℕ) → Mem a queue → Mem b woken → a ≢ b
+      apart a b i j e = omega (arith, ap tag (sym (f .agree .queued a i) ∙ ap (condition (idle m)) e ∙ sleeper n (idle m) b j .1))
+
+      known : (t : ℕ) → Mem t queue ⊎ Mem t woken → t < m .plan .threads
+      known t (inl i) = queued-known t i
+      known t (inr i) = omega (arith, threads-view (m .plan), f .agree .sized, sleeper n (idle m) t i .0)
+
+-- Create: the thread is dormant
+pub create-room : {m : Machine} {t : ℕ} → Creates m t → m .queue .count < 16
+create-room {m} {t} c = queue-room (facts (c .formed)) t (c .known) (λ e. omega (arith, ap tag (sym e ∙ c .dormant')))
+
+module _ {m : Machine} {x : ℕ} (r : Runs m x) where
+  pub caller-queued : Mem x (queued (m .queue))
+  caller-queued = chosen-is (planOf m) (idle m) x (r .chosen') .0
+
+  pub caller-known : x < m .plan .threads
+  caller-known = queued-known (facts (r .formed)) x caller-queued
+
+  pub caller-fits : x < 16
+  caller-fits = omega (arith, caller-known, facts (r .formed) .fits .threads)
+
+  -- the caller leaves a place behind
+  pub without-room : length (without x (queued (m .queue))) < 16
+  without-room = one-more f x (without x queue) (distinct-without x queue (f .agree .queueOnce)) (λ t i. queued-known f t (stayed x queue i .0)) caller-known (λ i. stayed x queue i .1 refl)
+    where
+      f : Facts m
+      f = facts (r .formed)
+
+      queue : List ℕ
+      queue = queued (m .queue)
+
+  -- the caller is ready, so it does not wait
+  pub waits-room : m .waits .count < 16
+  waits-room = omega (arith, length-queued (m .waits), one-more f x (queued (m .waits)) (f .agree .waitsOnce) (waiting-known f) caller-known runs)
+    where
+      f : Facts m
+      f = facts (r .formed)
+
+      runs : Mem x (queued (m .waits)) → ⊥
+      runs i = omega (arith, ap tag (sym (f .agree .queued x caller-queued) ∙ f .agree .waiting' x i .1))
+
+is-hold : (h : Hold) {s x : ℕ} → h .section ≡ s → h .thread ≡ x → T (isHold s x h)
+is-hold h {s} {x} e q = and-both (eqb (h .section) s) (eqb (h .thread) x) (eq-test (h .section) s e) (eq-test (h .thread) x q)
+
+-- holds of other sections than s leave room for one of s
+hold-room : {m : Machine} (f : Facts m) (s x : ℕ) (hs : List Hold) → s < m .plan .sections → Pairwise OtherSection hs → ((h : Hold) → Mem h hs → Mem h (held (m .holds)) × (s ≢ h .section)) → length hs < 16
+hold-room {m} f s x hs known once others =
+    omega (arith, f .fits .sections, sections-fit (m .plan .sections) (hold s x ∷ hs) (λ h i. others h i .1, once) (λ h i. below h (cases-cons i)))
+  where
+    below : (h : Hold) → (h ≡ hold s x) ⊎ Mem h hs → h .section < m .plan .sections
+    below h (inl e) = omega (arith, ap (λ (k : Hold). k .section) e)
+    below h (inr i) = f .held h (others h i .0) .0
+
+-- Take: a caller that wins takes a section that nobody holds. It does not hold it itself, and the ceiling of a section that it needs is
+-- at or above its base, as no ceiling held by others is.
+pub take-room : {m : Machine} {x s : ℕ} → Takes m x s → T (aboveAll (planOf m) x (heldByOthers x (held (m .holds)))) → m .holds .count < 16
+take-room {m} {x} {s} t wins = omega (arith, length-held (m .holds), hold-room f s x hs (t .known) (f .heldOnce) (λ h i. (i, λ e. free h i e (equal? (h .thread) x))))
+  where
+    f : Facts m
+    f = facts (t .runs .formed)
+
+    hs : List Hold
+    hs = held (m .holds)
+
+    below : (h : Hold) → Mem h hs → h .thread ≢ x → heldCeiling (planOf m) h < base (planOf m) x
+    below h i d =
+        ltb→lt (heldCeiling (planOf m) h) (base (planOf m) x)
+        (all-at (λ (k : Hold). ltb (heldCeiling (planOf m) k) (base (planOf m) x)) (heldByOthers x hs) wins (in-filter (λ (k : Hold). not (eqb (k .thread) x)) hs i (ne-test (h .thread) x d)))
+
+    free : (h : Hold) → Mem h hs → s ≡ h .section → (h .thread ≡ x) ⊎ (h .thread ≢ x) → ⊥
+    free h i e (inl q) = T-not (isHold s x h) (any-fails (isHold s x) hs (t .lacks) i) (is-hold h (sym e) q)
+    free h i e (inr d) = omega (arith, below h i d, ceiling-ge (planOf m) x s (t .needs), ap (ceiling (planOf m)) e)
+
+-- Give: the hold that ends is one of them, and no other is of its section
+pub give-room : {m : Machine} {x s : ℕ} → Gives m x s → length (filter (λ h. not (isHold s x h)) (held (m .holds))) < 16
+give-room {m} {x} {s} g = hold-room f s x (filter others hs) (f .held (hold s x) mine .0) (pairwise-filter OtherSection others hs (f .heldOnce)) (λ h i. left h (filtered others hs i))
+  where
+    f : Facts m
+    f = facts (g .runs .formed)
+
+    hs : List Hold
+    hs = held (m .holds)
+
+    others : Hold → Bool
+    others h = not (isHold s x h)
+
+    mine : Mem (hold s x) hs
+    mine = last-held hs x s (g .last)
+
+    apart : (h : Hold) → T (others h) → s ≡ h .section → (hold s x ≡ h) ⊎ (OtherSection (hold s x) h ⊎ OtherSection h (hold s x)) → ⊥
+    apart h t e (inl q) = T-not (isHold s x h) t (is-hold h (sym e) (sym (ap (λ (k : Hold). k .thread) q)))
+    apart h t e (inr (inl d)) = d e
+    apart h t e (inr (inr d)) = d (sym e)
+
+    left : (h : Hold) → Mem h hs × T (others h) → Mem h hs × (s ≢ h .section)
+    left h k = (k .0, λ e. apart h (k .1) e (pairwise-at OtherSection hs (f .heldOnce) (hold s x) h mine (k .0)))

@@ -1,0 +1,25 @@
+-- The lengths of the arrays of a declared struct, from what owning it tells.
+use mathlib.Core.Path.{_≡_, sym, _∙_}
+use mathlib.Core.List.{_∷_, []}
+use lib.ListN.{length, length-map}
+use denote.Laws.{Is}
+use denote.Struct.Laws.{owed, val}
+use denote.Struct.Declared.{row}
+use Rattle.machine.specs.declared.Machine.{Machine}
+use Rattle.machine.specs.declared.reports.Reports.{Reports}
+use Rattle.machine.specs.declared.state.State.{State}
+use Rattle.machine.proofs.Machine.{the-type as machine-type}
+use Rattle.machine.proofs.Machine.Laws.{the-laws as machine-laws}
+use Rattle.machine.proofs.reports.Reports.{the-type as reports-type}
+use Rattle.machine.proofs.reports.Reports.Laws.{the-laws as reports-laws}
+use Rattle.machine.proofs.state.State.{the-type as state-type}
+use Rattle.machine.proofs.state.State.Laws.{the-laws as state-laws}
+
+pub reports-size : (r : Reports) → Is (row reports-type) r (val reports-type reports-laws r ∷ []) → length (r .items) ≡ 17
+reports-size r g = sym (length-map (r .items) _) ∙ (owed reports-type reports-laws r _ g) .0 .1 .0 .1
+
+pub slots-size : (m : Machine) → Is (row machine-type) m (val machine-type machine-laws m ∷ []) → length (m .slots) ≡ 16
+slots-size m g = sym (length-map (m .slots) _) ∙ (owed machine-type machine-laws m _ g) .1 .1 .0 .1 .0 .1
+
+pub due-size : (s : State) → Is (row state-type) s (val state-type state-laws s ∷ []) → length (s .due .items) ≡ 17
+due-size s g = reports-size (s .due) ((owed state-type state-laws s _ g) .1 .0)

@@ -1,0 +1,97 @@
+-- `formed` meets its contract: the first question that has the answer No ends it, and the last one decides.
+use borrow.Author.Needs.{needs}
+use lib.ListN.{drop}
+use Rattle.machine.specs.Lists.{owed}
+use Rattle.machine.proofs.Outside.{was-no, was-yes, counts-fit, refused-plan, refused-counts, refused-numbers, refused-holds, refused-threads, due-decides}
+use Rattle.machine.proofs.formed.formed.Statement.{statement}
+use Rattle.machine.proofs.formed.formed.Tie as tie
+
+passes-requires : tie.Need-passes-requires
+passes-requires c κs = search needs
+
+returns : tie.Need-returns
+returns c =
+    let s = c .before .before .before .before .args .state in
+    refused-plan (s .machine) (drop (s .given) (owed (s .due))) (was-no (c .before .passes .ensures) (c .if1 .taken))
+
+counted-requires : tie.Need-counted-requires
+counted-requires c κs = search needs
+
+returns-2 : tie.Need-returns-2
+returns-2 c =
+    let s = c .before .before .before .before .before .before .args .state in
+    refused-counts (s .machine) (drop (s .given) (owed (s .due))) (was-no (c .before .counted .ensures) (c .if2 .taken))
+
+numbers-in-range-requires : tie.Need-numbers-in-range-requires
+numbers-in-range-requires c κs =
+    let p = c .before .before in
+    counts-fit (p .before .before .before .before .args .state .machine) (was-yes (p .before .passes .ensures) (p .if1 .left)) (was-yes (c .before .counted .ensures) (c .if2 .left))
+
+returns-3 : tie.Need-returns-3
+returns-3 c =
+    let k = c .before in
+    let s = k .before .before .before .before .before .before .before .args .state in
+    refused-numbers (s .machine) (drop (s .given) (owed (s .due))) (was-no (k .numbers-in-range .ensures) (c .if3 .taken))
+
+once-requires : tie.Need-once-requires
+once-requires c κs =
+    let k = c .before .before .before in
+    let p = k .before .before in
+    let f = counts-fit (p .before .before .before .before .args .state .machine) (was-yes (p .before .passes .ensures) (p .if1 .left)) (was-yes (k .before .counted .ensures) (k .if2 .left)) in
+    (f .holds', f .fits .sections)
+
+returns-4 : tie.Need-returns-4
+returns-4 c =
+    let k = c .before in
+    let s = k .before .before .before .before .before .before .before .before .before .before .args .state in
+    refused-holds (s .machine) (drop (s .given) (owed (s .due))) (was-no (k .once .ensures) (c .if4 .taken))
+
+stand-once-requires : tie.Need-stand-once-requires
+stand-once-requires c κs =
+    let k = c .before .before .before .before .before .before .before .before in
+    let p = k .before .before in
+    let f = counts-fit (p .before .before .before .before .args .state .machine) (was-yes (p .before .passes .ensures) (p .if1 .left)) (was-yes (k .before .counted .ensures) (k .if2 .left)) in
+    (f .fits .threads, f .queue', f .waits')
+
+returns-5 : tie.Need-returns-5
+returns-5 c =
+    let k = c .before in
+    let s = k .before .before .before .before .before .before .before .before .before .before .before .before .before .before .before .args .state in
+    refused-threads (s .machine) (drop (s .given) (owed (s .due))) (was-no (k .stand-once .ensures) (c .if5 .taken))
+
+in-range-requires : tie.Need-in-range-requires
+in-range-requires c κs =
+    let k = c .before .before .before .before .before .before .before .before .before .before .before in
+    let p = k .before .before in
+    counts-fit (p .before .before .before .before .args .state .machine) (was-yes (p .before .passes .ensures) (p .if1 .left)) (was-yes (k .before .counted .ensures) (k .if2 .left)) .fits
+
+returns-6 : tie.Need-returns-6
+returns-6 c =
+    let t = c .before .before in
+    let o = t .before .before .before .before .before in
+    let n = o .before .before .before in
+    let p = n .before .before .before .before in
+    let s = p .before .before .before .before .args .state in
+    due-decides (s .machine) (drop (s .given) (owed (s .due)))
+    (was-yes (p .before .passes .ensures) (p .if1 .left))
+    (was-yes (n .before .numbers-in-range .ensures) (n .if3 .left))
+    (was-yes (o .before .once .ensures) (o .if4 .left))
+    (was-yes (t .before .stand-once .ensures) (t .if5 .left))
+    (c .in-range .ensures)
+
+pub formed-spec : {M : Type 1} → statement M
+formed-spec =
+    tie.close
+    (tie.spec
+    passes-requires
+    returns
+    counted-requires
+    returns-2
+    numbers-in-range-requires
+    returns-3
+    once-requires
+    returns-4
+    stand-once-requires
+    returns-5
+    in-range-requires
+    returns-6)

@@ -1,0 +1,34 @@
+-- `first_due` meets its contract: in a well-formed state the report behind those given is in the array, and one of document 01's.
+use mathlib.Core.Path.{_≡_, ap, sym, _∙_}
+use mathlib.Core.List.{_∷_, tail}
+use Prim.Native.Nat.{_<_}
+use native.Mathlib.Omega.{arith}
+use lib.ListN.{length, getD}
+use Rattle.machine.specs.declared.state.State.{State}
+use Rattle.machine.specs.Lists.{reportOf, noReport}
+use Rattle.machine.specs.Steps.{Owes}
+use Rattle.machine.proofs.Sized.{due-size}
+use Rattle.machine.proofs.Owing.{first-due, due-known, due-fits, owing}
+use Rattle.machine.proofs.state.State.first_due.Statement.{statement}
+use Rattle.machine.proofs.state.State.first_due.Tie as tie
+
+-- the first report due is in the array
+in-array : (s : State) → Owes s → length (s .due .items) ≡ 17 → s .given < 17
+in-array s o size = let h = owing s (o .formed') (o .due') in omega (arith, h, due-fits s (o .formed') size h)
+
+mul-result : tie.Need-mul-result
+mul-result c = let s = c .before in record { fits = omega (arith, in-array (s .args .self) (s .pre) (due-size (s .args .self) (s .good .0))) }
+
+element-copy-out-result : tie.Need-element-copy-out-result
+element-copy-out-result c = let s = c .before in in-array (s .args .self) (s .pre) (due-size (s .args .self) (s .good .0))
+
+returns : tie.Need-returns
+returns c =
+    let s = c .before .before in
+    let q = s .args .self in
+    let h = owing q (s .pre .formed') (s .pre .due') in
+    let e = first-due (q .due) (q .given) h in
+    record { kind' = due-known q (s .pre .formed') (q .given) (omega arith) h; first = e ∙ ap (λ l. reportOf (getD (q .due .items) (q .given) noReport) ∷ l) (sym (ap tail e)) }
+
+pub first-due-spec : {M : Type 1} → statement M
+first-due-spec = tie.close (tie.spec mul-result element-copy-out-result returns)

@@ -1,0 +1,31 @@
+-- The rules as the code asks them: from the parts that each reads, as a number, 0 where the answer is Yes.
+use mathlib.Core.Bool.{cond}
+use mathlib.Core.List.{List}
+use Prim.Native.Nat.{ℕ}
+use lib.Dec.{eqb}
+use lib.ListN.{getD}
+use Rattle.model.specs.Rules.{isDormant, holdsNone, holdsNot, lastTaken}
+use Rattle.plan.specs.View.{mayTakeIn}
+use Rattle.machine.specs.declared.holds.Holds.{Holds}
+use Rattle.machine.specs.declared.reports.Report.{Report}
+use Rattle.machine.specs.declared.slots.Slot.{Slot}
+use Rattle.machine.specs.Lists.{numbered, held}
+use Rattle.machine.specs.View.{conditionOf, noSlot}
+
+abbrev pub runRule : (chosen : ℕ) → ℕ
+runRule x = cond (eqb x 255) 22 0
+
+abbrev pub freeRule : Holds → (chosen : ℕ) → ℕ
+freeRule hs x = cond (eqb x 255) 22 (cond (holdsNone (held hs) x) 0 24)
+
+abbrev pub createRule : List Slot → (thread : ℕ) → ℕ
+createRule slots t = cond (isDormant (conditionOf (getD slots t noSlot))) 0 23
+
+abbrev pub takeRule : (threads : ℕ) (needs : List ℕ) → Holds → (chosen section : ℕ) → ℕ
+takeRule threads needs hs x s = cond (eqb x 255) 22 (cond (mayTakeIn threads needs x s) (cond (holdsNot (held hs) s x) 0 26) 25)
+
+abbrev pub giveRule : Holds → (chosen section : ℕ) → ℕ
+giveRule hs x s = cond (eqb x 255) 22 (cond (eqb (numbered (lastTaken (held hs) x)) s) 0 27)
+
+abbrev pub reportRule : (first given : Report) → ℕ
+reportRule d r = cond (eqb (d .kind) (r .kind)) (cond (eqb (d .who) (r .who)) 0 30) 29

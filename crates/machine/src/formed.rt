@@ -1,0 +1,106 @@
+// Answer 12: whether a state that came from outside is well formed. The counts are tested before an entry is read.
+ghost use mathlib.Core.Path.{_≡_};
+ghost use mathlib.Core.Bool.{_&&_};
+ghost use Prim.Native.Nat.{_≤_};
+ghost use lib.Dec.{leb};
+ghost use lib.ListN.{getD};
+ghost use Rattle.model.specs.Searches.{all, upTo};
+ghost use Rattle.model.specs.Formed.{standsOnce, numbersInRange, formed};
+ghost use Rattle.machine.specs.Lists.{queued};
+ghost use Rattle.machine.specs.View.{conditionOf, noSlot, planOf, idle, view};
+ghost use Rattle.machine.specs.Contracts.{Counted};
+use crate::Machine;
+use crate::queue::Queue;
+use crate::slots;
+use crate::slots::Slot;
+use crate::state::State;
+use crate::time::LAST_TICK;
+use plan::questions::passes;
+
+// Whether each thread stands once in the queue if it is ready, once in the waits if it waits, and nowhere else.
+fn stand_once(threads: usize, slots: [Slot; 16], queue: Queue, waits: Queue) -> bool
+    requires { ⌜ (threads ≤ 16) × (queue .count ≤ 16) × (waits .count ≤ 16) ⌝ }
+    ensures { λ r. ⌜ r ≡ all (λ t. standsOnce (queued queue) (queued waits) (conditionOf (getD slots t noSlot)) t) (upTo threads) ⌝ }
+{
+    let mut t: usize = 0;
+    while t < threads {
+        let s = slots[t];
+        if queue.times(t as u8) != slots::in_queue(s) {
+            return false;
+        }
+        if waits.times(t as u8) != slots::in_waits(s) {
+            return false;
+        }
+        t += 1;
+    }
+    true
+}
+
+// Whether every number is in range: the tick number, the threads and the sections.
+fn numbers_in_range(m: Machine) -> bool
+    requires { ⌜ Counted m ⌝ }
+    ensures { λ r. ⌜ r ≡ numbersInRange (planOf m) (idle m) ⌝ }
+{
+    let p = m.plan;
+    let now = m.tick;
+    if LAST_TICK < now.0 {
+        return false;
+    }
+    let who = m.reported;
+    if who != 255 && p.threads <= who as usize {
+        return false;
+    }
+    let s = m.slots;
+    if !slots::in_range(s, p.threads, p.sections) {
+        return false;
+    }
+    let q = m.queue;
+    if !q.below(p.threads) {
+        return false;
+    }
+    let w = m.waits;
+    if !w.below(p.threads) {
+        return false;
+    }
+    let h = m.holds;
+    h.in_range(p.threads, p.sections)
+}
+
+// Whether the lists are within their arrays.
+fn counted(m: Machine) -> bool
+    ensures { λ r. ⌜ r ≡ leb (m .queue .count) 16 && leb (m .waits .count) 16 && leb (m .holds .count) 16 ⌝ }
+{
+    let q = m.queue;
+    let w = m.waits;
+    let h = m.holds;
+    q.count <= 16 && w.count <= 16 && h.count <= 16
+}
+
+// Whether the answer is not 12: see model, Formed.formed. Rules out a test of the numbers alone, and one that reads past a count.
+pub fn formed(state: State) -> bool
+    ensures { λ r. ⌜ r ≡ formed (planOf (state .machine)) (view state) ⌝ }
+{
+    let m = state.machine;
+    let p = m.plan;
+    if !passes(p) {
+        return false;
+    }
+    if !counted(m) {
+        return false;
+    }
+    if !numbers_in_range(m) {
+        return false;
+    }
+    let h = m.holds;
+    if !h.once(p.sections) {
+        return false;
+    }
+    let s = m.slots;
+    let q = m.queue;
+    let w = m.waits;
+    if !stand_once(p.threads, s, q, w) {
+        return false;
+    }
+    let due = state.due;
+    due.in_range(state.given, p)
+}

@@ -1,0 +1,29 @@
+// The machine that says what a module's kernel does. It knows nothing of dumps.
+pub mod time; // time.rt: tick numbers and waits
+pub mod queue; // queue.rt: threads in order, the ready queue and the waits
+pub mod holds; // holds.rt: who holds which section
+pub mod reports; // reports.rt: the reports of a call
+pub mod slots; // slots.rt: the conditions of the threads
+pub mod choice; // choice.rt: owner, current priority, chosen thread, heir
+pub mod calls; // calls.rt: what each call does
+pub mod state; // state.rt: a machine with the reports that it owes
+pub mod rules; // rules.rt: the questions asked of a record
+pub mod step; // step.rt: one record moves the machine or breaks a rule
+pub mod formed; // formed.rt: answer 12, of a state that came from outside
+
+use holds::Holds;
+use plan::Plan;
+use queue::Queue;
+use slots::Slot;
+use time::Tick;
+
+// Plain numbers only, since a state may be lent from outside. `reported` is the thread of the latest Switch given, 255 for nobody.
+pub struct Machine {
+    pub plan: Plan,
+    pub tick: Tick,
+    pub slots: [Slot; 16],
+    pub queue: Queue,
+    pub holds: Holds,
+    pub waits: Queue,
+    pub reported: u8,
+}
