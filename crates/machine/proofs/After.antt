@@ -12,19 +12,19 @@ use Rattle.model.specs.Searches.{_▷_, filter, upTo, without}
 use Rattle.model.specs.Plan.{base, ceiling, validPlan}
 use Rattle.model.specs.Records.{Ready, Won, Lost, Yield}
 use Rattle.model.specs.State.{Condition, dormant, asleep, waiting, State, condition, latestSwitch, lastReported, becomes, leaveQueue, joinQueue, arrive, joinWaits, leaveWaits, isHold, beginHold, endHold, owe}
-use Rattle.model.specs.Priorities.{chosen}
 use Rattle.model.specs.Calls.{create, sleepers, tick, delay, rivalled, relinquish, end, aboveAll, heldByOthers, take, wanted, heir, handOver, give, switch}
 use Rattle.model.proofs.Searches.{greatest-is, stayed, distinct-without}
-use Rattle.model.proofs.Nesting.{chosen-is}
 use Rattle.model.proofs.Kept.{sleeper}
 use Rattle.plan.specs.View as plans
 use Rattle.plan.specs.declared.Plan.{Plan}
 use Rattle.plan.proofs.Laws.{threads-view}
 use Rattle.machine.specs.declared.Machine.{Machine}
 use Rattle.machine.specs.declared.calls.Called.{Called}
-use Rattle.machine.specs.Lists.{numbered, queued, held, owed}
-use Rattle.machine.specs.View.{planOf, viewed, idle}
-use Rattle.machine.specs.Contracts.{Creates, Ticks, Runs, Takes, Gives, Ceilings, Chooses, Meets, Unswitched, Switches}
+use Rattle.machine.specs.declared.step.Stepped.{Stepped}
+use Rattle.machine.specs.Lists.{queued, held, owed}
+use Rattle.machine.specs.View.{planOf, viewed, idle, view}
+use Rattle.machine.specs.Contracts.{Creates, Ticks, Runs, Takes, Gives, Ceilings, Chooses, Meets}
+use Rattle.machine.specs.Steps.{Settles, Settled}
 use Rattle.machine.proofs.Facts.{Facts, facts}
 use Rattle.machine.proofs.Views.{length-queued, length-held, length-owed}
 use Rattle.machine.proofs.Room.{waiting-known, threads-fit, waiting-fits, waiting-room, woken-room, create-room, caller-fits, without-room, waits-room, take-room, give-room}
@@ -206,7 +206,7 @@ queue-known : {m : Machine} {st : State} (r : Called) → Meets r m st → After
 queue-known r k a t i = a .known t (subst (λ (l : List ℕ). Mem t l) (ap (λ (z : State). z .queue) (k .seen)) i)
 
 -- it has what finding the chosen thread asks
-pub chooses : {m : Machine} {st : State} (r : Called) → Facts m → Meets r m st → After st → (ceilings : List ℕ) → Ceilings m ceilings → Chooses (r .machine) ceilings
+chooses : {m : Machine} {st : State} (r : Called) → Facts m → Meets r m st → After st → (ceilings : List ℕ) → Ceilings m ceilings → Chooses (r .machine) ceilings
 chooses r f k a ceilings c =
     record {
       valid = subst (λ p. T (validPlan p)) (sym (plan-kept r k)) (f .valid);
@@ -221,16 +221,15 @@ chooses r f k a ceilings c =
       ceilings' = c ∙ ap (λ p. map (ceiling p) (upTo 16)) (sym (plan-kept r k));
     }
 
--- and then, with the number of the chosen thread, what the Switch asks
-pub unswitched-after : {m : Machine} {st : State} (r : Called) → Meets r m st → After st → (who : ℕ) → who ≡ numbered (chosen (planOf (r .machine)) (idle (r .machine))) → Unswitched r who
-unswitched-after r k a who e =
+-- and what the Switch asks
+pub settles : {m : Machine} {st : State} (r : Called) → Facts m → Meets r m st → After st → (ceilings : List ℕ) → Ceilings m ceilings → Settles r ceilings
+settles r f k a ceilings c =
     record {
+      chooses = chooses r f k a ceilings c;
       room = omega (arith, length-owed (r .reports), ap (λ (z : State). length (z .due)) (k .seen), a .few);
-      known = λ t q. queue-known r k a t (chosen-is (planOf (r .machine)) (idle (r .machine)) t q .0);
-      chosen' = e;
       last = ap lastReported (k .seen) ∙ a .last ∙ sym (ap (λ (z : State). z .reported) (k .seen));
     }
 
 -- a call with its Switch: where `st` is `perform p k (idle m)`, the right-hand side is `effect p (call k) (idle m)`
-pub effected : {m : Machine} {st : State} (r c : Called) → Meets r m st → Switches c r → viewed (c .machine) (owed (c .reports)) ≡ switch (planOf m) st
+pub effected : {m : Machine} {st : State} (r : Called) (c : Stepped) → Meets r m st → Settled c r → view (c .state) ≡ switch (planOf m) st
 effected {m} r c k z = z .seen ∙ ap (λ p. switch p (viewed (r .machine) (owed (r .reports)))) (plan-kept r k) ∙ ap (switch (planOf m)) (k .seen)

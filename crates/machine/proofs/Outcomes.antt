@@ -6,7 +6,7 @@ use mathlib.Core.Option.{Option, none, some}
 use Prim.Native.Nat.{ℕ, _<_}
 use native.Mathlib.Omega.{arith}
 use borrow.Author.Tests.{ne-eqb}
-use lib.Dec.{T}
+use lib.Dec.{T, eqb}
 use lib.ListN.{length}
 use Rattle.model.specs.Searches.{isEmpty}
 use Rattle.model.specs.Plan as plan
@@ -23,10 +23,10 @@ use Rattle.machine.specs.declared.calls.Called.{Called}
 use Rattle.machine.specs.declared.reports.Report as declared
 use Rattle.machine.specs.declared.rules.Record.{Record}
 use Rattle.machine.specs.declared.state.State.{State}
-use Rattle.machine.specs.Lists.{numbered, reportOf, owed}
+use Rattle.machine.specs.declared.step.Stepped.{Stepped}
+use Rattle.machine.specs.Lists.{numbered, reportOf}
 use Rattle.machine.specs.View.{planOf, idle, view}
-use Rattle.machine.specs.Contracts.{Switches}
-use Rattle.machine.specs.Steps.{recordOf, ruleNumber, Steps, Owes, Delivers, Answers}
+use Rattle.machine.specs.Steps.{recordOf, ruleNumber, Steps, Owes, Delivers, Settled, Answers}
 use Rattle.machine.proofs.Switched.{chosen-due}
 use Rattle.machine.proofs.After.{effected}
 use Rattle.machine.proofs.Stepping.{Made, comes-idle, none-broken, yes-to-all}
@@ -82,23 +82,20 @@ module _ {s : State} {ceilings : List ℕ} {who : ℕ} {entry : Record} (steps :
           }
 
     -- a call, with its Switch where one is due
-    module _ {r : Called} (m : Made s entry r) (c : Called) (z : Switches c r) (next : ℕ) (q : next ≡ numbered (chosen (planOf (r .machine)) (idle (r .machine)))) where
-      same-plan : c .machine .plan ≡ s .machine .plan
-      same-plan = ap (λ (x : Machine). x .plan) (z .machine) ∙ m .meets .plan'
-
-      pub answers-call : Answers (record { state = record { machine = c .machine; due = c .reports; given = 0 }; chosen = next; rule = 0 }) s entry
+    module _ {c : Called} (m : Made s entry c) (r : Stepped) (z : Settled r c) where
+      pub answers-call : Answers r s entry
       answers-call =
           let p = planOf (s .machine) in
           record {
             outcome =
-                ap moved
-                (effected r c (m .meets) z ∙ ap (λ (st : state.State). switch p (perform p (m .made) st)) (sym (comes-idle steps all-yes (m .is-made))))
+                ap (λ n. cond (eqb n 0) (moved (view (r .state))) (broke n)) (z .rule')
+                ∙ ap moved (effected c r (m .meets) z ∙ ap (λ (st : state.State). switch p (perform p (m .made) st)) (sym (comes-idle steps all-yes (m .is-made))))
                 ∙ sym (moves ∙ ap (λ (x : records.Record). moved (effect p x (view s))) (m .is-made));
-            plan' = same-plan;
+            plan' = ap (λ (x : Machine). x .plan) (z .machine') ∙ m .meets .plan';
             chosen' =
-                q
+                z .chosen'
                 ∙ ap numbered
-                (ap₂ chosen (ap plans.view (m .meets .plan')) (ap idle (sym (z .machine)))
-                ∙ sym (chosen-due p (c .machine) (owed (c .reports))));
-            kept = λ k. absurd (k refl);
+                (ap₂ chosen (ap plans.view (m .meets .plan')) (ap idle (sym (z .machine')))
+                ∙ sym (chosen-due p (r .state .machine) (view (r .state) .due)));
+            kept = λ k. absurd (k (z .rule'));
           }

@@ -7,20 +7,22 @@ use Prim.Native.Nat.{ℕ, _≤_, _<_}
 use lib.Dec.{T, eqb}
 use lib.ListN.{length}
 use Rattle.model.specs.Records as records
-use Rattle.model.specs.State.{start}
+use Rattle.model.specs.State.{start, lastReported}
 use Rattle.model.specs.Priorities.{chosen}
+use Rattle.model.specs.Calls.{switch}
 use Rattle.model.specs.Runs.{Outcome, moved, broke, deliver, step}
 use Rattle.model.specs.Formed.{formed, lastTick}
 use Rattle.plan.specs.View as plans
 use Rattle.plan.specs.declared.Plan.{Plan}
+use Rattle.machine.specs.declared.calls.Called.{Called}
 use Rattle.machine.specs.declared.reports.Report as declared
 use Rattle.machine.specs.declared.rules.Record.{Record}
 use Rattle.machine.specs.declared.rules.Record.the-variants.{Create, Delay, Relinquish, End, Take, Give, Tick, Report}
 use Rattle.machine.specs.declared.state.State.{State}
 use Rattle.machine.specs.declared.step.Stepped.{Stepped}
-use Rattle.machine.specs.Lists.{numbered, reportOf}
-use Rattle.machine.specs.View.{planOf, view}
-use Rattle.machine.specs.Contracts.{Ceilings}
+use Rattle.machine.specs.Lists.{numbered, threadOf, reportOf, owed}
+use Rattle.machine.specs.View.{planOf, viewed, idle, view}
+use Rattle.machine.specs.Contracts.{Ceilings, Chooses}
 
 abbrev pub recordOf : Record → records.Record
 recordOf (Create t) = records.call (records.Create t)
@@ -80,6 +82,19 @@ pub record FirstDue (r : declared.Report) (s : State) : Type 0 where
 pub record Delivers (r s : State) (given : declared.Report) : Type 0 where
   pub plan' : r .machine .plan ≡ s .machine .plan
   pub seen : view r ≡ deliver (reportOf given) (view s)
+
+-- what a call left: the chosen thread can be asked for, there is room for the Switch, and none is due yet
+pub record Settles (c : Called) (ceilings : List ℕ) : Type 0 where
+  pub chooses : Chooses (c .machine) ceilings
+  pub room : c .reports .count < 17
+  pub last : lastReported (viewed (c .machine) (owed (c .reports))) ≡ threadOf (c .machine .reported)
+
+-- the call with its Switch, and the thread chosen after it
+pub record Settled (r : Stepped) (c : Called) : Type 0 where
+  pub machine' : r .state .machine ≡ c .machine
+  pub seen : view (r .state) ≡ switch (planOf (c .machine)) (viewed (c .machine) (owed (c .reports)))
+  pub chosen' : r .chosen ≡ numbered (chosen (planOf (c .machine)) (idle (c .machine)))
+  pub rule' : r .rule ≡ 0
 
 -- what a step answers, as the model's outcome
 abbrev pub outcomeOf : Stepped → Outcome

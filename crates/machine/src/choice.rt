@@ -70,10 +70,8 @@ pub(crate) fn find_heir(
     requires { ⌜ (threads ≤ 16) × (waits .count ≤ 16) × (holds .count ≤ 16) ⌝ }
     ensures { λ r. ⌜ (r .who ≡ numbered (firstGreatest (baseIn threads bases) (queued waits))) × (r .free ≡ inheritsIn (baseIn threads bases) (now (ceilings .entry)) (held holds) (firstGreatest (baseIn threads bases) (queued waits))) ⌝ }
 {
-    let mut heir = Heir {
-        who: 255,
-        free: false,
-    };
+    let mut who: u8 = 255;
+    let mut free = false;
     let mut top: u8 = 0;
     let all = *ceilings;
     let waiting = waits.items;
@@ -87,10 +85,8 @@ pub(crate) fn find_heir(
         let first = i == 0;
         i += 1;
         if first || top < b {
-            heir = Heir {
-                who: t,
-                free: false,
-            };
+            who = t;
+            free = false;
             top = b;
             let mut j: usize = 0;
             while j < h {
@@ -100,8 +96,8 @@ pub(crate) fn find_heir(
                 }
                 j += 1;
             }
-            heir = Heir { who: t, free: true };
+            free = true;
         }
     }
-    heir
+    Heir { who, free }
 }

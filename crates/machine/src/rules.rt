@@ -112,25 +112,15 @@ pub fn broken(state: State, ceilings: &[u8; 16], chosen: u8, entry: Record) -> u
             let s = m.slots;
             rule = create_rule(s, t);
         }
-        Record::Delay(_) => {
-            rule = free_rule(holds, chosen);
-        }
-        Record::Relinquish => {
-            rule = run_rule(chosen);
-        }
-        Record::End => {
-            rule = free_rule(holds, chosen);
-        }
+        Record::Delay(_) => rule = free_rule(holds, chosen),
+        Record::Relinquish => rule = run_rule(chosen),
+        Record::End => rule = free_rule(holds, chosen),
         Record::Take(s) => {
             let needs = p.needs;
             rule = take_rule(p.threads, needs, holds, chosen, s);
         }
-        Record::Give(s) => {
-            rule = give_rule(holds, chosen, s);
-        }
-        Record::Tick => {
-            rule = 0;
-        }
+        Record::Give(s) => rule = give_rule(holds, chosen, s),
+        Record::Tick => rule = 0,
         Record::Report(r) => {
             if idle {
                 return 28;

@@ -1,5 +1,5 @@
 // One step: a record moves the machine or breaks a rule.
-ghost use Rattle.machine.specs.Steps.{Steps, Answers};
+ghost use Rattle.machine.specs.Steps.{Steps, Settles, Settled, Answers};
 use crate::calls::Called;
 use crate::reports::Reports;
 use crate::rules;
@@ -33,27 +33,13 @@ pub fn step(state: State, ceilings: &[u8; 16], chosen: u8, entry: Record) -> Ste
         reports: Reports::none(),
     };
     match entry {
-        Record::Create(t) => {
-            c = m.create(t);
-        }
-        Record::Delay(w) => {
-            c = m.delay(chosen, w);
-        }
-        Record::Relinquish => {
-            c = m.relinquish(ceilings, chosen);
-        }
-        Record::End => {
-            c = m.end(chosen);
-        }
-        Record::Take(s) => {
-            c = m.take(ceilings, chosen, s);
-        }
-        Record::Give(s) => {
-            c = m.give(ceilings, chosen, s);
-        }
-        Record::Tick => {
-            c = m.tick();
-        }
+        Record::Create(t) => c = m.create(t),
+        Record::Delay(w) => c = m.delay(chosen, w),
+        Record::Relinquish => c = m.relinquish(ceilings, chosen),
+        Record::End => c = m.end(chosen),
+        Record::Take(s) => c = m.take(ceilings, chosen, s),
+        Record::Give(s) => c = m.give(ceilings, chosen, s),
+        Record::Tick => c = m.tick(),
         Record::Report(r) => {
             return Stepped {
                 state: state.delivered(r),
@@ -62,14 +48,22 @@ pub fn step(state: State, ceilings: &[u8; 16], chosen: u8, entry: Record) -> Ste
             };
         }
     }
+    settle(c, ceilings)
+}
+
+// After a call: who is chosen now, and the Switch to it.
+fn settle(called: Called, ceilings: &[u8; 16]) -> Stepped
+    requires { ⌜ Settles called (now ceilings) ⌝ }
+    ensures { λ r. ⌜ Settled r called ⌝ }
+{
+    let m = called.machine;
+    let who = m.chosen(ceilings);
+    let c = called.switch(who);
     let m2 = c.machine;
-    let who = m2.chosen(ceilings);
-    let c2 = c.switch(who);
-    let m3 = c2.machine;
-    let due = c2.reports;
+    let due = c.reports;
     Stepped {
         state: State {
-            machine: m3,
+            machine: m2,
             due,
             given: 0,
         },

@@ -20,17 +20,17 @@ use Rattle.machine.proofs.choice.find_heir.Statement.{statement}
 use Rattle.machine.proofs.choice.find_heir.Tie as tie
 
 abbrev Inv-loop : tie.InvT-loop
-Inv-loop threads bases ceilings heir top all waiting n taken h i t b first j₀ j = (j ≤ h) × NoneYet (bars all b) (entry taken) j
+Inv-loop threads bases ceilings who free top all waiting n taken h i t b first j₀ j = (j ≤ h) × NoneYet (bars all b) (entry taken) j
 
 abbrev μ-loop : tie.MeasureT-loop
-μ-loop threads bases ceilings heir top all waiting n taken h i t b first j₀ j = h - j
+μ-loop threads bases ceilings who free top all waiting n taken h i t b first j₀ j = h - j
 
 abbrev Inv-waits : tie.InvT-waits
-Inv-waits threads bases ceilings heir₀ top₀ all waiting n taken h i₀ heir top i =
-    (i ≤ n) × HeirYet (baseIn threads bases) all (latestFirst h (entry taken)) waiting i (heir .who) top (heir .free)
+Inv-waits threads bases ceilings who₀ free₀ top₀ all waiting n taken h i₀ who free top i =
+    (i ≤ n) × HeirYet (baseIn threads bases) all (latestFirst h (entry taken)) waiting i who top free
 
 abbrev μ-waits : tie.MeasureT-waits
-μ-waits threads bases ceilings heir₀ top₀ all waiting n taken h i₀ heir top i = n - i
+μ-waits threads bases ceilings who₀ free₀ top₀ all waiting n taken h i₀ who free top i = n - i
 
 waits-holds : tie.Need-waits-holds Inv-loop μ-loop Inv-waits μ-waits
 waits-holds c = (omega arith, (refl, refl, refl))
@@ -77,7 +77,7 @@ module _ (o : tie.At-waits Inv-loop μ-loop Inv-waits μ-waits) where
   on-with : (b : ℕ) → b ≡ base (getD waiting (o .waits .i) 0) → (o .waits .i ≡ 0) ⊎ (o .waits .top < b) → (f : Bool) → f ≡ not (any (bars ceilings b) holding)
       → HeirYet base ceilings holding waiting (o .waits .i + 1) (getD waiting (o .waits .i) 0) b f
   on-with b e k f q =
-      turns-to base ceilings holding waiting (o .waits .i) (o .waits .heir .who) (o .waits .top) (o .waits .heir .free) (o .waits .inv .1) b e k f
+      turns-to base ceilings holding waiting (o .waits .i) (o .waits .who) (o .waits .top) (o .waits .free) (o .waits .inv .1) b e k f
       (q ∙ sym (all-none (λ h. ltb (ceilingIn ceilings h) b) holding))
 
 -- in the inner loop the next thread is the first or has a greater base
@@ -125,12 +125,12 @@ waits-again-3 : tie.Need-waits-again-3 Inv-loop μ-loop Inv-waits μ-waits
 waits-again-3 c =
     let o = c .before .before .before .before in
     let r = c .before .before .base in
-    (omega arith, stays (base o) (ceilings o) (holding o) (waiting o) (o .waits .i) (o .waits .heir .who) (o .waits .top) (o .waits .heir .free) (o .waits .inv .1) (r .result) (r .ensures) (eqb-false _ _ (c .before .if1 .left)) (ltb-false _ _ (c .if2 .left)))
+    (omega arith, stays (base o) (ceilings o) (holding o) (waiting o) (o .waits .i) (o .waits .who) (o .waits .top) (o .waits .free) (o .waits .inv .1) (r .result) (r .ensures) (eqb-false _ _ (c .before .if1 .left)) (ltb-false _ _ (c .if2 .left)))
 
 returns : tie.Need-returns Inv-loop μ-loop Inv-waits μ-waits
 returns c =
     let o = c .before in
-    let e = all-passed (base o) (ceilings o) (holding o) (waiting o) (o .before .before .before .before .args .waits .count) (o .waits .i) (o .waits .heir .who) (o .waits .top) (o .waits .heir .free) (omega arith) (omega arith) (o .waits .inv .1) in
+    let e = all-passed (base o) (ceilings o) (holding o) (waiting o) (o .before .before .before .before .args .waits .count) (o .waits .i) (o .waits .who) (o .waits .top) (o .waits .free) (omega arith) (omega arith) (o .waits .inv .1) in
     (e .0, e .1)
 
 pub find-heir-spec : {M : Type 1} → statement M

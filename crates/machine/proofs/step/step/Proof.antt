@@ -8,7 +8,7 @@ use Rattle.machine.specs.View.{planOf, view}
 use Rattle.machine.specs.Steps.{recordOf}
 use Rattle.machine.proofs.Facts.{facts}
 use Rattle.machine.proofs.Owing.{unowed}
-use Rattle.machine.proofs.After.{chooses, unswitched-after}
+use Rattle.machine.proofs.After.{settles}
 use Rattle.machine.proofs.Stepping.{creates, ticks, delays, relinquishes, ends, takes, gives, Made, made-create, made-tick, made-delay, made-relinquish, made-end, made-take, made-give}
 use Rattle.machine.proofs.Outcomes.{answers-rule, all-yes, owes, answers-report, answers-call}
 use Rattle.machine.proofs.step.step.Statement.{statement}
@@ -126,27 +126,18 @@ made c =
     (λ w. let e = ap recordOf (w .1 .given .1) in subst M (sym (w .3)) (made-tick (ticks (s .pre) y e) e (w .2 .ensures))))))))
     (c .match .came)
 
-chosen-requires : tie.Need-chosen-requires
-chosen-requires c κs =
-    let j = c .before in
-    let m = made j in
-    let s = j .before .before .before .before .before in
-    chooses (j .match .c) (facts (unowed (s .args .state) (s .pre .formed))) (m .meets) (m .leaves) (s .args .ceilings .now) (s .pre .ceilings')
-
-switch-requires : tie.Need-switch-requires
-switch-requires c κs =
-    let j = c .before .before in
-    let m = made j in
-    unswitched-after (j .match .c) (m .meets) (m .leaves) (c .chosen .result) (c .chosen .ensures)
+settle-requires : tie.Need-settle-requires
+settle-requires c κs =
+    let m = made c in
+    let s = c .before .before .before .before .before in
+    settles (c .match .c) (facts (unowed (s .args .state) (s .pre .formed))) (m .meets) (m .leaves) (s .args .ceilings .now) (s .pre .ceilings')
 
 returns-3 : tie.Need-returns-3
 returns-3 c =
-    let z = c .before .before in
-    let h = z .before in
-    let j = h .before .before in
+    let j = c .before in
     let n = j .before in
     let b = n .before .before .before in
-    answers-call (b .before .pre) (b .broken .result) (b .broken .ensures) (n .before .before .if1 .left) (made j) (z .switch .result) (z .switch .ensures) (h .chosen .result) (h .chosen .ensures)
+    answers-call (b .before .pre) (b .broken .result) (b .broken .ensures) (n .before .before .if1 .left) (made j) (c .settle .result) (c .settle .ensures)
 
 pub step-spec : {M : Type 1} → statement M
 step-spec =
@@ -172,6 +163,5 @@ step-spec =
     enum-known-entry-5
     delivered-requires
     returns-2
-    chosen-requires
-    switch-requires
+    settle-requires
     returns-3)

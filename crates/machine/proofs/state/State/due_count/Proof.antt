@@ -1,8 +1,7 @@
 -- `due_count` meets its contract: those due are the reports of the array behind the ones given.
-use mathlib.Core.Path.{sym}
 use native.Mathlib.Omega.{arith}
 use borrow.Author.Needs.{needs}
-use lib.ListN.{drop, length-drop}
+use lib.ListN.{length-drop}
 use Rattle.machine.specs.Lists.{owed}
 use Rattle.machine.proofs.Views.{length-owed}
 use Rattle.machine.proofs.state.State.due_count.Statement.{statement}
