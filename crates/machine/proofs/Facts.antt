@@ -1,10 +1,9 @@
 -- What is known of a well-formed machine.
-use mathlib.Core.Path.{_≡_, sym, _∙_}
+use mathlib.Core.Path.{_≡_}
 use mathlib.Core.List.{List·Memᴰ as Mem}
 use Prim.Native.Nat.{ℕ, _≤_, _<_}
 use native.Mathlib.Omega.{arith}
 use lib.Dec.{T}
-use lib.ListN.{getD}
 use Rattle.model.specs.Plan.{validPlan}
 use Rattle.model.specs.State.{waiting, Hold, condition}
 use Rattle.model.specs.Formed.{lastTick}
@@ -12,11 +11,11 @@ use Rattle.model.proofs.Searches.{Pairwise}
 use Rattle.model.proofs.Invariant.{OtherSection, Agree}
 use Rattle.model.proofs.Formed.{well-formed}
 use Rattle.plan.specs.View.{Fits}
-use Rattle.plan.proofs.Loops.{length-listed}
 use Rattle.plan.proofs.Laws.{threads-view, valid-fits}
 use Rattle.machine.specs.declared.Machine.{Machine}
-use Rattle.machine.specs.View.{conditionOf, noSlot, planOf, idle}
+use Rattle.machine.specs.View.{planOf, idle}
 use Rattle.machine.specs.Contracts.{Formed}
+use Rattle.machine.proofs.Views.{sized}
 
 pub record Facts (m : Machine) : Type 0 where
   pub fits : Fits (m .plan)
@@ -31,7 +30,7 @@ pub record Facts (m : Machine) : Type 0 where
 
 pub facts : {m : Machine} → Formed m → Facts m
 facts {m} f =
-    let w = well-formed (planOf m) (idle m) (length-listed (λ t. conditionOf (getD (m .slots) t noSlot)) (m .plan .threads) ∙ sym (threads-view (m .plan))) (f .passes) in
+    let w = well-formed (planOf m) (idle m) (sized m) (f .passes) in
     record {
       fits = valid-fits (m .plan) (w .valid);
       valid = w .valid;

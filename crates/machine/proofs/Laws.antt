@@ -12,7 +12,7 @@ use Rattle.model.specs.Plan as model
 use Rattle.model.specs.Runs.{moved, broke, step}
 use Rattle.model.specs.Formed.{lastTick, formed}
 use Rattle.model.proofs.Tests.{equal?}
-use Rattle.model.proofs.Laws.{Reached, reached-formed}
+use Rattle.model.proofs.Laws.{Reached, WellFormed, well-formed, reached-formed}
 use Rattle.plan.specs.View as plans
 use Rattle.plan.specs.declared.Plan.{Plan}
 use Rattle.machine.specs.declared.Machine.{Machine}
@@ -22,6 +22,7 @@ use Rattle.machine.specs.declared.step.Stepped.{Stepped}
 use Rattle.machine.specs.View.{planOf, view}
 use Rattle.machine.specs.Contracts.{Ceilings, Chooses}
 use Rattle.machine.specs.Steps.{recordOf, Answers}
+use Rattle.machine.proofs.Views.{sized}
 use Rattle.machine.proofs.Facts.{facts}
 use Rattle.machine.proofs.Chosen.{listed}
 use Rattle.machine.proofs.Owing.{unowed}
@@ -31,6 +32,10 @@ pub use Rattle.machine.proofs.Switched.{chosen-due}
 -- a state that stands for one that a run reaches is well formed, up to the last tick number
 pub stands-formed : (s : State) → T (model.validPlan (planOf (s .machine))) → Reached (planOf (s .machine)) (view s) → view s .tickNumber ≤ lastTick → T (formed (planOf (s .machine)) (view s))
 stands-formed s v r k = reached-formed (planOf (s .machine)) v (view s) r k
+
+-- what a well-formed state tells, in the model's words
+pub formed-facts : (s : State) → T (formed (planOf (s .machine)) (view s)) → WellFormed (planOf (s .machine)) (view s)
+formed-facts s f = well-formed (planOf (s .machine)) (view s) (sized (s .machine)) f
 
 -- in a well-formed state the chosen thread can be asked for, with the ceilings of its plan beside it
 pub asks-chosen : (s : State) (ceilings : List ℕ) → T (formed (planOf (s .machine)) (view s)) → Ceilings (s .machine) ceilings → Chooses (s .machine) ceilings

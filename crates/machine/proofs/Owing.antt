@@ -1,5 +1,5 @@
 -- What is due: the reports of the array behind the ones given; and what is known of it in a well-formed state.
-use mathlib.Core.Path.{_≡_, refl, ap, sym, _∙_}
+use mathlib.Core.Path.{_≡_, refl, ap, _∙_}
 use mathlib.Core.Logic.{_⊎_, inl, inr}
 use mathlib.Core.Bool.{Bool, true, not, _&&_}
 use mathlib.Core.List.{List, [], _∷_, tail, List·Memᴰ as Mem, List·Memᴰ·head as here, List·Memᴰ·tail as there}
@@ -16,16 +16,16 @@ use Rattle.model.specs.Formed.{numbersInRange, heldOnce, allStandOnce, dueInRan
 use Rattle.model.proofs.Tests.{split, and-left, and-both}
 use Rattle.model.proofs.Nesting.{chosen-is}
 use Rattle.model.proofs.Formed.{well-formed}
-use Rattle.plan.proofs.Loops.{listed, length-listed}
+use Rattle.plan.proofs.Loops.{listed}
 use Rattle.plan.proofs.Laws.{threads-view}
 use Rattle.machine.specs.declared.reports.Reports.{Reports}
 use Rattle.machine.specs.declared.state.State.{State}
 use Rattle.machine.specs.Lists.{reportOf, noReport, owed}
-use Rattle.machine.specs.View.{conditionOf, noSlot, planOf, view}
+use Rattle.machine.specs.View.{planOf, view}
 use Rattle.machine.specs.Contracts.{Formed}
 use Rattle.machine.specs.Steps.{IsReport}
 use Rattle.machine.proofs.Facts.{facts}
-use Rattle.machine.proofs.Views.{length-owed}
+use Rattle.machine.proofs.Views.{length-owed, sized}
 use Rattle.machine.proofs.Room.{queued-known}
 use Rattle.machine.proofs.ReportKinds.{is-report}
 
@@ -80,8 +80,7 @@ module _ (s : State) (passes : T (formed (planOf (s .machine)) (view s))) where
   due-known i a b =
       let m = s .machine in
       let d = getD (s .due .items) i noReport in
-      let sized = length-listed (λ t. conditionOf (getD (m .slots) t noSlot)) (m .plan .threads) ∙ sym (threads-view (m .plan)) in
-      let w = well-formed (planOf m) (view s) sized passes in
+      let w = well-formed (planOf m) (view s) (sized m) passes in
       is-report d (planOf m) (omega (arith, threads-view (m .plan), facts unowed .fits .threads)) (w .known (reportOf d) (in-due (s .due) (s .given) i a b))
 
   -- so those due are in the array: past its end there is none

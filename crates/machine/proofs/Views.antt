@@ -10,16 +10,19 @@ use lib.Dec.{eqb}
 use lib.ListN.{length, getD, set, length-set}
 use lib.Seq.{getD-set-same, getD-set-other, ext-getD}
 use Rattle.model.specs.Searches.{upTo, same}
+use Rattle.model.specs.Plan.{threads}
 use Rattle.model.specs.State.{dormant}
 use Rattle.model.proofs.Tests.{equal?}
 use Rattle.plan.specs.View.{inUse}
 use Rattle.plan.proofs.Loops.{listed, length-listed}
+use Rattle.plan.proofs.Laws.{threads-view}
+use Rattle.machine.specs.declared.Machine.{Machine}
 use Rattle.machine.specs.declared.queue.Queue.{Queue}
 use Rattle.machine.specs.declared.holds.Holds.{Holds}
 use Rattle.machine.specs.declared.reports.Reports.{Reports}
 use Rattle.machine.specs.declared.slots.Slot.{Slot}
 use Rattle.machine.specs.Lists.{numbered, threadOf, queued, latestFirst, holdOf, noHold, held, reportOf, noReport, owed}
-use Rattle.machine.specs.View.{conditionOf, noSlot, conditionsOf}
+use Rattle.machine.specs.View.{conditionOf, noSlot, conditionsOf, planOf, idle}
 
 -- a view has as many entries as are in use
 
@@ -38,6 +41,10 @@ length-held hs = length-latestFirst (hs .count) (λ i. holdOf (getD (hs .items) 
 
 pub length-owed : (rs : Reports) → length (owed rs) ≡ rs .count
 length-owed rs = length-listed (λ i. reportOf (getD (rs .items) i noReport)) (rs .count)
+
+-- there is a condition for each thread of the plan
+pub sized : (m : Machine) → length (idle m .conditions) ≡ threads (planOf m)
+sized m = length-listed (λ t. conditionOf (getD (m .slots) t noSlot)) (m .plan .threads) ∙ sym (threads-view (m .plan))
 
 -- what a store in the array changes in the view of its first n entries
 pub listed-set : {A B : Type 0} (f : A → B) (n : ℕ) (items : List A) (t : ℕ) (a d : A)

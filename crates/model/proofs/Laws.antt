@@ -14,7 +14,7 @@ pub use Rattle.model.proofs.Give.{last-held, give-ends-latest-hold, no-
 -- a ceiling's whole law
 pub use Rattle.model.proofs.Ceiling.{ceiling-ge, ceiling-attained}
 -- the verdict of a list of records, and of its first records
-pub use Rattle.model.proofs.Prefixes.{clean-steps, clean-count, breach-prefix, clean-before-breach, clean-reached}
+pub use Rattle.model.proofs.Prefixes.{run-ended, run-moved, run-broke, clean-steps, clean-count, breach-prefix, clean-before-breach, clean-reached}
 -- the bench kernel's list of records is clean with nothing due, and every such list is the bench kernel's
 pub use Rattle.model.proofs.Bench.{bench-clean, clean-is-bench}
 -- demand 3

@@ -3,7 +3,7 @@ use mathlib.Core.Path.{_≡_}
 use mathlib.Core.Bool.{Bool, _&&_}
 use mathlib.Core.List.{List, [], _∷_, map}
 use mathlib.Core.Option.{Option, none, some}
-use Prim.Native.Nat.{ℕ, _+_, _*_, _^_, _≤_}
+use Prim.Native.Nat.{ℕ, _+_, _*_, _^_, _≤_, min}
 use lib.Dec.{eqb, leb, ltb}
 use lib.ListN.{length, getD}
 use Rattle.model.specs.Searches.{all, upTo}
@@ -90,3 +90,7 @@ pub record Whole (bytes : List ℕ) : Type 0 where
   pub threads : threadCount bytes ≤ 16
   pub sections : sectionCount bytes ≤ 16
   pub size : length bytes ≡ 2 + 3 * threadCount bytes
+
+-- where the plan ends in what a program reads: as many bytes as its first byte implies, or all there are
+abbrev pub planLength : List ℕ → ℕ
+planLength input = min (length input) (2 + 3 * threadCount input)

@@ -3,6 +3,7 @@ pub mod bytes; // bytes.rt: what refuses a plan's bytes, and the plan that they 
 pub mod ceilings; // ceilings.rt: the ceilings of the sections
 pub mod lookup; // lookup.rt: base priority and needs of a thread
 pub mod questions; // questions.rt: questions 1, 3 and 4 of a plan's numbers
+pub mod input; // input.rt: a plan in front of something else
 
 // Plain numbers, so that a plan can stand in a state that is lent from outside.
 pub struct Plan {

@@ -1,0 +1,40 @@
+-- What other crates may cite of dumps and call lists.
+use mathlib.Core.Path.{_≡_}
+use mathlib.Core.Bool.{Bool}
+use mathlib.Core.List.{List}
+use mathlib.Core.Option.{none}
+use Prim.Native.Nat.{ℕ, _<_}
+use lib.Dec.{T}
+use Rattle.model.specs.Searches.{upTo}
+use Rattle.model.proofs.Searches.{all-at, in-upTo}
+use Rattle.plan.specs.Bytes.{number}
+use Rattle.plan.proofs.Answers.{zero-none}
+use Rattle.dump.specs.Layout.{recordCount, kindAt, operandAt}
+use Rattle.dump.specs.Questions.{kindAllowed, operandFits, hasKinds, hasOperands, questions, refusal, Whole}
+use Rattle.dump.proofs.Answers as answers
+
+module _ (threads sections : ℕ) (callsOnly : Bool) (bytes : List ℕ) where
+  -- `refusal` answers 0 only where nothing refuses the bytes
+  pub refusal-zero : number (refusal threads sections callsOnly bytes) ≡ 0 → refusal threads sections callsOnly bytes ≡ none
+  unfolding refusal questions
+  refusal-zero e = zero-none (questions threads sections callsOnly bytes) tt e
+
+  module _ (e : refusal threads sections callsOnly bytes ≡ none) where
+    -- bytes that nothing refuses are as long as N says, and every kind and every operand is allowed
+    pub accepted : Whole bytes × T (hasKinds callsOnly bytes) × T (hasOperands threads sections bytes)
+    accepted =
+        let a = answers.accepted threads sections callsOnly bytes e in
+        (answers.whole bytes (a .count) (a .size), a .kinds, a .operands)
+
+    -- the first of these alone: what reading a record asks for
+    pub whole : Whole bytes
+    whole = accepted .0
+
+    -- the others, of each record
+    pub entry-passes : (i : ℕ) → i < recordCount bytes
+        → T (kindAllowed callsOnly (kindAt bytes i)) × T (operandFits threads sections (kindAt bytes i) (operandAt bytes i))
+    entry-passes i h =
+        let n = recordCount bytes in (
+          all-at (λ j. kindAllowed callsOnly (kindAt bytes j)) (upTo n) (accepted .1) (in-upTo n i h),
+          all-at (λ j. operandFits threads sections (kindAt bytes j) (operandAt bytes j)) (upTo n) (accepted .2) (in-upTo n i h),
+        )

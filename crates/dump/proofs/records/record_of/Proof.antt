@@ -1,0 +1,123 @@
+-- `record_of` meets its contract: by its kind, each entry is the machine's record that stands for the model's.
+use mathlib.Core.Path.{_≡_, refl, ap, subst}
+use mathlib.Core.Logic.{_⊎_, inl, inr, _≢_}
+use mathlib.Core.Bool.{Bool, true, false, not, _||_}
+use Prim.Native.Nat.{ℕ, _%_}
+use native.Mathlib.Omega.{arith}
+use native.Mathlib.Nat.{mod-eq-of-lt}
+use borrow.Author.Needs.{needs}
+use borrow.Author.Tests.{ne-eqb}
+use lib.Dec.{T, eqb, ltb, eqb→eq, ltb→lt}
+use Rattle.model.specs.Records as model
+use Rattle.model.proofs.Tests.{split, is-false}
+use Rattle.machine.specs.Lists.{threadOf as machine-thread}
+use Rattle.machine.specs.declared.rules.Record.the-variants.{Create, Take, Give, Report}
+use Rattle.dump.specs.Layout.{nobody, threadOf}
+use Rattle.dump.specs.Questions.{isCall, kindAllowed, operandFits}
+use Rattle.dump.specs.Reading.{Reads}
+use Rattle.dump.proofs.Codec.{fits-kind, each-call, each-kind}
+use Rattle.dump.proofs.records.record_of.Statement.{statement}
+use Rattle.dump.proofs.records.record_of.Tie as tie
+
+-- an operand below 16 is its own low byte
+low : (n : ℕ) → T (ltb n 16) → n % 256 ≡ n
+low n t = mod-eq-of-lt (omega (arith, ltb→lt n 16 t))
+
+-- each kind of call, with an operand that fits
+module _ (k n : ℕ) (t : T (operandFits 16 16 k n)) where
+  creates : k ≡ 1 → Reads (Create (n % 256)) k n
+  creates e = rw e (record { same = ap (λ i. model.call (model.Create i)) (low n (rw e at t)); kind' = tt })
+
+  takes : k ≡ 5 → Reads (Take (n % 256)) k n
+  takes e = rw e (record { same = ap (λ i. model.call (model.Take i)) (low n (rw e at t)); kind' = tt })
+
+  gives : k ≡ 6 → Reads (Give (n % 256)) k n
+  gives e = rw e (record { same = ap (λ i. model.call (model.Give i)) (low n (rw e at t)); kind' = tt })
+
+cast-who : tie.Need-cast-who
+cast-who c = search needs
+
+returns : tie.Need-returns
+returns c = let a = c .before .args .entry in creates (a .kind) (a .operand) (c .before .pre) (c .match .keys1)
+
+returns-2 : tie.Need-returns-2
+returns-2 c = rw (c .match .keys2) (record { same = refl; kind' = tt })
+
+returns-3 : tie.Need-returns-3
+returns-3 c = rw (c .match .keys3) (record { same = refl; kind' = tt })
+
+returns-4 : tie.Need-returns-4
+returns-4 c = rw (c .match .keys4) (record { same = refl; kind' = tt })
+
+returns-5 : tie.Need-returns-5
+returns-5 c = let a = c .before .args .entry in takes (a .kind) (a .operand) (c .before .pre) (c .match .keys5)
+
+returns-6 : tie.Need-returns-6
+returns-6 c = let a = c .before .args .entry in gives (a .kind) (a .operand) (c .before .pre) (c .match .keys6)
+
+returns-7 : tie.Need-returns-7
+returns-7 c = rw (c .match .keys7) (record { same = refl; kind' = tt })
+
+-- a report: the low byte of its operand is the machine's number of the thread that it names
+module _ (n : ℕ) where
+  or-no : (a : Bool) → T (a || false) → T a
+  or-no true t = tt
+  or-no false t = t
+
+  thread : T (ltb n 16 || false) → n % 256 ≡ n
+  thread t = low n (or-no (ltb n 16) t)
+
+  switch : T (ltb n 16 || eqb n nobody) → machine-thread (n % 256) ≡ threadOf n
+  switch t = go (split (eqb n nobody))
+    where
+      go : T (eqb n nobody) ⊎ T (not (eqb n nobody)) → machine-thread (n % 256) ≡ threadOf n
+      go (inl e) = rw (eqb→eq n nobody e)
+      go (inr d) =
+          let z : eqb n nobody ≡ false = is-false (eqb n nobody) d in
+          let h : T (ltb n 16) = or-no (ltb n 16) (rw z at t) in
+          rw (z, low n h, ne-eqb n 255 (λ e. omega (arith, ltb→lt n 16 h)))
+
+  called : {A : Type 0} → true ≡ false → A
+  called e = absurd (subst T e tt)
+
+  abbrev Fits : ℕ → Type 0
+  Fits k = isCall k ≡ false → T (operandFits 16 16 k n) → Reads (Report (record { kind = k; who = n % 256 })) k n
+
+  reports : (k : ℕ) → T (kindAllowed false k) → Fits k
+  reports k t =
+      each-kind Fits
+      called called called called called called called
+      (λ c f. record { same = ap (λ i. model.report (model.Ready i)) (thread f); kind' = record { least = omega arith; most = omega arith } })
+      (λ c f. record { same = ap (λ o. model.report (model.Switch o)) (switch f); kind' = record { least = omega arith; most = omega arith } })
+      (λ c f. record { same = ap (λ i. model.report (model.Won i)) (thread f); kind' = record { least = omega arith; most = omega arith } })
+      (λ c f. record { same = ap (λ i. model.report (model.Lost i)) (thread f); kind' = record { least = omega arith; most = omega arith } })
+      (λ c f. record { same = ap (λ i. model.report (model.Yield i)) (thread f); kind' = record { least = omega arith; most = omega arith } })
+      k t
+
+-- a kind that is none of 1 to 7 is no call
+no-call : (k : ℕ) → k ≢ 1 → k ≢ 2 → k ≢ 3 → k ≢ 4 → k ≢ 5 → k ≢ 6 → k ≢ 7 → isCall k ≡ false
+no-call k a b c d e f g = go (split (isCall k))
+  where
+    go : T (isCall k) ⊎ T (not (isCall k)) → isCall k ≡ false
+    go (inl t) = absurd (each-call (λ n. k ≡ n → ⊥) a b c d e f g k t refl)
+    go (inr t) = is-false (isCall k) t
+
+returns-8 : tie.Need-returns-8
+returns-8 c =
+    let a = c .before .args .entry in
+    let d = c .match .rest in
+    reports (a .operand) (a .kind) (fits-kind 16 16 (a .kind) (a .operand) (c .before .pre)) (no-call (a .kind) (d .0 .0 .0 .0 .0 .0 .1) (d .0 .0 .0 .0 .0 .1) (d .0 .0 .0 .0 .1) (d .0 .0 .0 .1) (d .0 .0 .1) (d .0 .1) (d .1)) (c .before .pre)
+
+pub record-of-spec : {M : Type 1} → statement M
+record-of-spec =
+    tie.close
+    (tie.spec
+    cast-who
+    returns
+    returns-2
+    returns-3
+    returns-4
+    returns-5
+    returns-6
+    returns-7
+    returns-8)

@@ -1,0 +1,83 @@
+-- The dump and the call list, in the order of document 01. A byte past the end counts as 0.
+use mathlib.Core.Bool.{cond}
+use mathlib.Core.List.{List, [], _∷_, _++_, map}
+use mathlib.Core.Option.{Option, none, some}
+use Prim.Native.Nat.{ℕ, _+_, _*_, _/_, _%_}
+use lib.Dec.{eqb}
+use lib.ListN.{length}
+use Rattle.model.specs.Searches.{upTo}
+use Rattle.model.specs.Records.{Create, Delay, Relinquish, End, Take, Give, Tick, Ready, Switch, Won, Lost, Yield, Call, Record, call, report, callKind, reportKind, named}
+use Rattle.plan.specs.Bytes.{byte, word}
+
+-- N in two bytes, low byte first
+abbrev pub recordCount : List ℕ → ℕ
+recordCount bytes = word bytes 0
+
+-- N kind bytes
+abbrev pub kindAt : List ℕ → (i : ℕ) → ℕ
+kindAt bytes i = byte bytes (2 + i)
+
+-- N operands of two bytes, low byte first
+abbrev pub operandAt : List ℕ → (i : ℕ) → ℕ
+operandAt bytes i = word bytes (2 + recordCount bytes + 2 * i)
+
+-- Switch to nobody is 65535.
+abbrev pub nobody : ℕ
+nobody = 65535
+
+abbrev pub threadOf : (operand : ℕ) → Option ℕ
+threadOf n = cond (eqb n nobody) none (some n)
+
+-- the record of a kind with an operand; which kinds there are is question 7, and any other number is read as the last of them
+abbrev pub recordOf : (kind operand : ℕ) → Record
+recordOf k n =
+    cond (eqb k 1) (call (Create n))
+    (cond (eqb k 2) (call (Delay n))
+    (cond (eqb k 3) (call Relinquish)
+    (cond (eqb k 4) (call End)
+    (cond (eqb k 5) (call (Take n))
+    (cond (eqb k 6) (call (Give n))
+    (cond (eqb k 7) (call Tick)
+    (cond (eqb k 16) (report (Ready n))
+    (cond (eqb k 17) (report (Switch (threadOf n)))
+    (cond (eqb k 18) (report (Won n))
+    (cond (eqb k 19) (report (Lost n)) (report (Yield n))))))))))))
+
+-- the records of a dump, in order
+abbrev pub decode : List ℕ → List Record
+decode bytes = map (λ i. recordOf (kindAt bytes i) (operandAt bytes i)) (upTo (recordCount bytes))
+
+-- and back: the kind and the operand of a record
+
+abbrev pub kindOf : Record → ℕ
+kindOf (call k) = callKind k
+kindOf (report r) = reportKind r
+
+abbrev pub callOperand : Call → ℕ
+callOperand (Create t) = t
+callOperand (Delay n) = n
+callOperand Relinquish = 0
+callOperand End = 0
+callOperand (Take s) = s
+callOperand (Give s) = s
+callOperand Tick = 0
+
+abbrev pub threadNumber : Option ℕ → ℕ
+threadNumber none = nobody
+threadNumber (some t) = t
+
+abbrev pub operandOf : Record → ℕ
+operandOf (call k) = callOperand k
+operandOf (report r) = threadNumber (named r)
+
+-- a number in two bytes, low byte first
+abbrev pub twoBytes : ℕ → List ℕ
+twoBytes n = n % 256 ∷ n / 256 ∷ []
+
+abbrev pub operands : List Record → List ℕ
+operands [] = []
+operands (r ∷ rs) = twoBytes (operandOf r) ++ operands rs
+
+-- Sizes first: N; N kind bytes; N operands.
+abbrev pub encode : List Record → List ℕ
+encode rs = twoBytes (length rs) ++ map kindOf rs ++ operands rs

@@ -1,0 +1,48 @@
+// Where N, the kinds and the operands of a dump or call list stand.
+ghost use mathlib.Core.Path.{_≡_};
+ghost use Prim.Native.Nat.{_≤_, _<_};
+ghost use lib.ListN.{length};
+ghost use Rattle.dump.specs.Layout.{recordCount, kindAt, operandAt};
+ghost use Rattle.dump.specs.Questions.{Whole};
+use plan::bytes::word_at;
+
+// A record's two numbers.
+pub struct Entry {
+    pub kind: u8,
+    pub operand: u16,
+}
+
+// N, the number of records.
+pub fn record_count(bytes: &[u8]) -> usize
+    requires { ⌜ 2 ≤ length (now bytes) ⌝ }
+    ensures { λ r. ⌜ r ≡ recordCount (now (bytes .entry)) ⌝ }
+{
+    word_at(bytes, 0) as usize
+}
+
+// The kind of record i.
+pub fn kind_at(bytes: &[u8], i: usize) -> u8
+    requires { ⌜ Whole (now bytes) × (i < recordCount (now bytes)) ⌝ }
+    ensures { λ r. ⌜ r ≡ kindAt (now (bytes .entry)) i ⌝ }
+{
+    bytes[2 + i]
+}
+
+// The operand of record i, where there are n.
+pub fn operand_at(bytes: &[u8], n: usize, i: usize) -> u16
+    requires { ⌜ Whole (now bytes) × (n ≡ recordCount (now bytes)) × (i < n) ⌝ }
+    ensures { λ r. ⌜ r ≡ operandAt (now (bytes .entry)) i ⌝ }
+{
+    word_at(bytes, 2 + n + 2 * i)
+}
+
+// Record i, where there are n.
+pub fn entry_at(bytes: &[u8], n: usize, i: usize) -> Entry
+    requires { ⌜ Whole (now bytes) × (n ≡ recordCount (now bytes)) × (i < n) ⌝ }
+    ensures { λ r. ⌜ (r .kind ≡ kindAt (now (bytes .entry)) i) × (r .operand ≡ operandAt (now (bytes .entry)) i) ⌝ }
+{
+    Entry {
+        kind: kind_at(bytes, i),
+        operand: operand_at(bytes, n, i),
+    }
+}

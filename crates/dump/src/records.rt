@@ -1,0 +1,28 @@
+// The machine's records, read from their two numbers.
+ghost use lib.Dec.{T};
+ghost use Rattle.dump.specs.Questions.{operandFits};
+ghost use Rattle.dump.specs.Reading.{Reads};
+use crate::layout::Entry;
+use machine::reports::Report;
+use machine::rules::Record;
+use machine::time::Wait;
+
+// The record of a kind and an operand that questions 7 and 8 let pass. Nobody, 65535, is the machine's 255.
+pub fn record_of(entry: Entry) -> Record
+    requires { ⌜ T (operandFits 16 16 (entry .kind) (entry .operand)) ⌝ }
+    ensures { λ r. ⌜ Reads r (entry .kind) (entry .operand) ⌝ }
+{
+    let kind = entry.kind;
+    let operand = entry.operand;
+    let who = (operand % 256) as u8;
+    match kind {
+        1 => Record::Create(who),
+        2 => Record::Delay(Wait(operand)),
+        3 => Record::Relinquish,
+        4 => Record::End,
+        5 => Record::Take(who),
+        6 => Record::Give(who),
+        7 => Record::Tick,
+        _ => Record::Report(Report { kind, who }),
+    }
+}

@@ -1,0 +1,90 @@
+-- What this crate's functions ask and answer.
+use mathlib.Core.Path.{_≡_}
+use mathlib.Core.Logic.{_⊎_}
+use mathlib.Core.Bool.{false, cond}
+use mathlib.Core.List.{List, [], _∷_}
+use Prim.Native.Nat.{ℕ, _+_, _≤_, _<_}
+use lib.Dec.{T, eqb}
+use lib.ListN.{length}
+use Rattle.model.specs.Plan as model
+use Rattle.model.specs.Records as records
+use Rattle.model.specs.State as state
+use Rattle.model.specs.Priorities.{chosen}
+use Rattle.model.specs.Runs.{clean, breach, moved, broke, step, run}
+use Rattle.model.specs.Formed.{lastTick, formed}
+use Rattle.model.proofs.Laws.{Reached}
+use Rattle.plan.specs.Bytes as plans
+use Rattle.plan.specs.Bytes.{number}
+use Rattle.machine.specs.declared.state.State.{State}
+use Rattle.machine.specs.Lists.{numbered}
+use Rattle.machine.specs.View.{planOf, view}
+use Rattle.machine.specs.Contracts.{Ceilings}
+use Rattle.dump.specs.Layout.{recordCount, kindAt, decode}
+use Rattle.dump.specs.Questions.{Whole, hasKinds, hasOperands}
+use Rattle.monitor.specs.declared.walk.Walked.{Walked}
+use Rattle.monitor.specs.declared.live.Watch.{Watch}
+use Rattle.monitor.specs.declared.live.Begun.{Begun}
+use Rattle.monitor.specs.declared.live.Reply as replies
+use Rattle.monitor.specs.declared.live.Reply.the-variants as says
+use Rattle.monitor.specs.declared.live.Told.{Told}
+use Rattle.monitor.specs.Watching as watching
+use Rattle.monitor.specs.Watching.{Watched, begin, reply, after}
+
+-- the state in which a run ends: behind its last record, or before the one that breaks a rule
+unfoldable pub ends : model.Plan → List records.Record → state.State → state.State
+ends p [] st = st
+ends p (r ∷ rs) st = elim (step p st r) [ moved st' ↦ ends p rs st' | broke n ↦ st ]
+
+-- Every state on the way is well formed: those of a run from the start are, since the tick number has room for every record; of a lent one
+-- only itself is known, so only one record is walked over.
+pub record Runs (s : State) (n : ℕ) : Type 0 where
+  pub reached : Reached (planOf (s .machine)) (view s)
+  pub room : view s .tickNumber + n ≤ lastTick
+
+pub record Lent (s : State) (bytes : List ℕ) : Type 0 where
+  pub single : recordCount bytes ≡ 1
+  pub formed' : T (formed (planOf (s .machine)) (view s))
+  pub room : kindAt bytes 0 ≡ 7 → view s .tickNumber < lastTick
+
+-- what a walk asks: a valid plan with its ceilings, the chosen thread, records that questions 5 to 8 let pass
+pub record Walks (s : State) (ceilings : List ℕ) (who : ℕ) (bytes : List ℕ) (n : ℕ) : Type 0 where
+  pub valid : T (model.validPlan (planOf (s .machine)))
+  pub ceilings' : Ceilings (s .machine) ceilings
+  pub chosen' : who ≡ numbered (chosen (planOf (s .machine)) (view s))
+  pub whole : Whole bytes
+  pub count : n ≡ recordCount bytes
+  pub kinds : T (hasKinds false bytes)
+  pub operands : T (hasOperands (s .machine .plan .threads) (s .machine .plan .sections) bytes)
+  pub safe : Runs s n ⊎ Lent s bytes
+
+-- a walk ends where the run does, with its verdict; a state that no record moved is the one that came
+pub record WalkEnds (r : Walked) (s : State) (bytes : List ℕ) : Type 0 where
+  pub plan' : r .state .machine .plan ≡ s .machine .plan
+  pub verdict : cond (eqb (r .rule) 0) (clean (r .at) (length (view (r .state) .due))) (breach (r .at) (r .rule)) ≡ run (planOf (s .machine)) 0 (decode bytes) (view s)
+  pub state' : view (r .state) ≡ ends (planOf (s .machine)) (decode bytes) (view s)
+  pub kept : r .at ≡ 0 → r .state ≡ s
+
+-- the watch state that a struct stands for
+abbrev pub seen : Watch → Watched
+seen w = record { plan = planOf (w .state .machine); state = view (w .state); rule = w .rule }
+
+-- the refusal of a plan's bytes, 0 if there is none, and the state that is made of them
+pub record Begins (r : Begun) (plan : List ℕ) : Type 0 where
+  pub answer : r .refused ≡ number (plans.refusal plan)
+  pub leaves : seen (r .watch) ≡ begin plan
+
+abbrev pub replyAs : replies.Reply → watching.Reply
+replyAs (says.Refused n) = watching.refused n
+replyAs (says.Clean d) = watching.clean d
+replyAs (says.Broken r) = watching.broken r
+
+-- What a live step answers and leaves, of every lent state whatsoever.
+pub record Tells (r : Told) (w : Watch) (kind operand : ℕ) : Type 0 where
+  pub answer : replyAs (r .reply) ≡ reply (seen w) kind operand
+  pub leaves : seen (r .watch) ≡ after (seen w) kind operand
+  -- where the answer is 12, 7, 8 or 13 the struct is the one that came in, whole
+  pub refused' : (q : ℕ) → reply (seen w) kind operand ≡ watching.refused q → r .watch ≡ w
+  -- so it is where a breach is stored
+  pub stored' : (w .rule ≡ 0 → ⊥) → r .watch ≡ w
+  -- a new breach changes the stored rule alone
+  pub breach' : (n : ℕ) → w .rule ≡ 0 → reply (seen w) kind operand ≡ watching.broken n → r .watch ≡ record { state = w .state; rule = n }

@@ -1,0 +1,4 @@
+// The watch as a library (document 01's watch; the program of that name stands above it).
+pub mod walk; // walk.rt: the one loop over records
+pub mod check; // check.rt: the whole check of a plan and a dump
+pub mod live; // live.rt: the watch state and the live step

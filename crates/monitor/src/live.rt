@@ -1,0 +1,133 @@
+// The watch state and the live step: one record at a time, on a state that is lent.
+ghost use mathlib.Core.Path.{_≡_};
+ghost use Rattle.plan.specs.Bytes.{number};
+ghost use Rattle.monitor.specs.Watching.{isRule, refusal};
+ghost use Rattle.monitor.specs.Contracts.{seen, Begins, Tells};
+use crate::walk::walk;
+use dump::questions::kind_allowed;
+use dump::questions::operand_fits;
+use machine::formed::formed;
+use machine::state::State;
+use machine::time::LAST_TICK;
+use plan::Plan;
+use plan::bytes;
+use plan::ceilings::ceilings;
+
+// A state of the machine and the rule of a breach that is stored, 0 if there is none. Plain numbers only, since it may be lent from outside.
+pub struct Watch {
+    pub state: State,
+    pub rule: u8,
+}
+
+// The question that refuses a plan, 0 if there is none, and the watch state made of it.
+pub struct Begun {
+    pub refused: u8,
+    pub watch: Watch,
+}
+
+// What a live step answers: the question that refuses it; clean, with the number due; or the broken rule.
+pub enum Reply {
+    Refused(u8),
+    Clean(usize),
+    Broken(u8),
+}
+
+pub struct Told {
+    pub watch: Watch,
+    pub reply: Reply,
+}
+
+// A watch state is made from a plan that passes 1 to 4, and carries it; of another it carries no thread, so that every step answers 12.
+pub fn begin(plan: &[u8]) -> Begun
+    ensures { λ r. ⌜ Begins r (now (plan .entry)) ⌝ }
+{
+    let q = bytes::refusal(plan);
+    let mut p = Plan {
+        threads: 0,
+        sections: 0,
+        bases: [0u8; 16],
+        needs: [0u16; 16],
+    };
+    if q == 0 {
+        p = bytes::read(plan);
+    }
+    Begun {
+        refused: q,
+        watch: Watch {
+            state: State::fresh(p),
+            rule: 0,
+        },
+    }
+}
+
+// Whether a stored rule is one of document 01's, or none.
+fn is_rule(rule: u8) -> bool
+    ensures { λ r. ⌜ r ≡ isRule rule ⌝ }
+{
+    rule == 0 || (21 <= rule && rule <= 30)
+}
+
+// 12, 7, 8 and 13, in this order: the number of the first No, 0 if there is none.
+fn refused(watch: Watch, kind: u8, operand: u16) -> u8
+    ensures { λ r. ⌜ r ≡ number (refusal (seen watch) kind operand) ⌝ }
+{
+    let s = watch.state;
+    if !formed(s) || !is_rule(watch.rule) {
+        return 12;
+    }
+    if !kind_allowed(false, kind) {
+        return 7;
+    }
+    let m = s.machine;
+    let p = m.plan;
+    if !operand_fits(p.threads, p.sections, kind, operand) {
+        return 8;
+    }
+    let t = m.tick;
+    if kind == 7 && t.0 == LAST_TICK {
+        return 13;
+    }
+    0
+}
+
+// One record, on any lent state: the answer, and the state after it. Rules out a step that leaves the state alone, one that judges anew after
+// a breach, and a breach that moves the machine.
+pub fn live(watch: Watch, kind: u8, operand: u16) -> Told
+    ensures { λ r. ⌜ Tells r watch kind operand ⌝ }
+{
+    let q = refused(watch, kind, operand);
+    if q != 0 {
+        return Told {
+            watch,
+            reply: Reply::Refused(q),
+        };
+    }
+    if watch.rule != 0 {
+        return Told {
+            watch,
+            reply: Reply::Broken(watch.rule),
+        };
+    }
+    let s = watch.state;
+    let m = s.machine;
+    let p = m.plan;
+    let all = ceilings(p);
+    let who = m.chosen(&all);
+    let single = [1u8, 0, kind, (operand % 256) as u8, (operand / 256) as u8];
+    let w = walk(s, &all, who, &single, 1);
+    let after = w.state;
+    let told = Watch {
+        state: after,
+        rule: w.rule,
+    };
+    if w.rule != 0 {
+        return Told {
+            watch: told,
+            reply: Reply::Broken(w.rule),
+        };
+    }
+    Told {
+        watch: told,
+        reply: Reply::Clean(after.due_count()),
+    }
+}
