@@ -1,0 +1,1 @@
+-- The proofs of this program's functions are beside this file.

@@ -1,0 +1,151 @@
+-- `tally` meets its contract: after k calls the records so far are counted.
+use mathlib.Core.Path.{_≡_, refl, ap, sym, subst, _∙_}
+use mathlib.Core.List.{List, [], _++_}
+use Prim.Native.Nat.{_+_, _-_, _≤_, _<_}
+use native.Mathlib.Omega.{arith}
+use lib.ListN.{length}
+use Rattle.model.specs.Records.{Record}
+use Rattle.machine.specs.View.{view}
+use Rattle.machine.specs.Steps.{Fresh}
+use Rattle.dump.specs.Layout.{kindAt, operandAt}
+use Rattle.dump.specs.Reading.{Reads}
+use Rattle.kernel.specs.Answers.{isMade, recordsOf}
+use Rattle.kernel.specs.Contracts.{Passed, madeOf}
+use Rattle.kernel.proofs.Giving.{IsFormed}
+use Rattle.kernel.proofs.CallList.{list-whole, calls-few, call-readable, reads-as}
+use Rattle.kernel.proofs.CallsMade.{CallsMade, added, added-count, made-begin, made-all, made-steps, made-broke, made-due, made-formed, made-next}
+use Rattle.kernel.proofs.tally.tally.Statement.{statement}
+use Rattle.kernel.proofs.tally.tally.Tie as tie
+
+abbrev Inv-loop : tie.InvT-loop
+Inv-loop ceilings list n first who₀ records₀ k₀ s who records k = (k ≤ n) × (done : List Record) × (records ≡ length done) × CallsMade (first .machine .plan) list k s who done
+
+abbrev μ-loop : tie.MeasureT-loop
+μ-loop ceilings list n first who₀ records₀ k₀ s who records k = n - k
+
+fresh-requires : tie.Need-fresh-requires Inv-loop μ-loop
+fresh-requires c κs = tt
+
+loop-holds : tie.Need-loop-holds Inv-loop μ-loop
+loop-holds c =
+    let f = c .fresh in
+    (omega arith, [], refl, made-begin (f .result .machine .plan) (c .before .before .args .list .now) (f .result) (subst (Fresh (f .result)) (sym (f .ensures .plan')) (f .ensures)))
+
+-- what the run asks, of the plan that the first state carries
+passed : (c : tie.At-loop Inv-loop μ-loop) → (let s = c .before .before .before in Passed (c .before .fresh .result .machine .plan) (s .args .ceilings .now) (s .args .list .now) (s .args .n))
+passed c =
+    let s = c .before .before .before in
+    subst (λ p. Passed p (s .args .ceilings .now) (s .args .list .now) (s .args .n)) (sym (c .before .fresh .ensures .plan')) (s .pre)
+
+entry-at-requires : tie.Need-entry-at-requires Inv-loop μ-loop
+entry-at-requires c κs = (list-whole (passed (c .before)), passed (c .before) .count, c .loop-test .taken)
+
+record-of-requires : tie.Need-record-of-requires Inv-loop μ-loop
+record-of-requires c κs =
+    let i = c .before in
+    let e = c .entry-at .ensures in
+    rw (e .0, e .1) (call-readable (passed (i .before)) (i .before .loop .k) (i .loop-test .taken))
+
+-- the record read is the one of call k
+reads : (c : tie.After-record-of Inv-loop μ-loop) → (let l = c .before .before .before in let d = l .before .before .before .args .list .now in Reads (c .record-of .result) (kindAt d (l .loop .k)) (operandAt d (l .loop .k)))
+reads c =
+    let e = c .before .entry-at .ensures in
+    reads-as (c .record-of .ensures) (e .0) (e .1)
+
+step-requires : tie.Need-step-requires Inv-loop μ-loop
+step-requires c κs =
+    let l = c .before .before .before in
+    made-steps (passed l) (l .loop .inv .3) (c .before .before .loop-test .taken) (c .record-of .result) (reads c)
+
+returns : tie.Need-returns Inv-loop μ-loop
+returns c =
+    let t = c .before .before .before in
+    let l = t .before .before .before .before in
+    let e =
+    ap (λ p. madeOf p (l .before .before .before .args .list .now)) (sym (l .before .fresh .ensures .plan'))
+    ∙ made-broke (passed l) (l .loop .inv .3) (t .before .before .before .loop-test .taken) (t .before .record-of .result) (reads (t .before)) (t .step .result) (t .step .ensures) (c .if1 .taken)
+    in
+    record { admitted' = sym (ap isMade e); records' = sym (ap (λ o. length (recordsOf o)) e) }
+
+-- a list has few calls, and a call makes few records
+few : (c : tie.In-loop Inv-loop μ-loop) → (c .before .loop .k < 20000) × (c .before .loop .records ≤ 360000)
+few c =
+    let v = c .before .loop .inv in
+    let k = c .loop-test .taken in
+    (omega (arith, calls-few (passed (c .before)), k), omega (arith, calls-few (passed (c .before)), k, v .2, v .3 .few))
+
+add-records : tie.Need-add-records Inv-loop μ-loop
+add-records c = record { fits = omega (arith, few (c .before .before .before .before .before .before) .1) }
+
+due-count-requires : tie.Need-due-count-requires Inv-loop μ-loop
+due-count-requires c κs = tt
+
+-- the call is admitted: its reports are few, and the state is well formed
+admitted : (c : tie.Else1 Inv-loop μ-loop) → (let o = c .before .before .before .step .result in (length (view (o .state) .due) ≤ 17) × IsFormed (o .state))
+admitted c =
+    let t = c .before .before .before in
+    let l = t .before .before .before .before in
+    let m = l .loop .inv .3 in
+    let k = t .before .before .before .loop-test .taken in
+    let x = t .before .record-of .result in
+    let r = reads (t .before) in
+    (made-due (passed l) m k x r (t .step .result) (t .step .ensures) (c .if1 .left), made-formed (passed l) m k x r (t .step .result) (t .step .ensures) (c .if1 .left))
+
+add-records-2 : tie.Need-add-records-2 Inv-loop μ-loop
+add-records-2 c =
+    let e = c .before in
+    record { fits = omega (arith, few (e .before .before .before .before .before .before) .1, admitted e .0, c .due-count .ensures) }
+
+settled-requires : tie.Need-settled-requires Inv-loop μ-loop
+settled-requires c κs = admitted (c .before) .1
+
+add-k : tie.Need-add-k Inv-loop μ-loop
+add-k c = record { fits = omega (arith, few (c .before .before .before .before .before .before .before .before) .0) }
+
+loop-less : tie.Need-loop-less Inv-loop μ-loop
+loop-less c = omega (arith, c .before .before .before .before .before .before .before .before .loop-test .taken)
+
+loop-again : tie.Need-loop-again Inv-loop μ-loop
+loop-again c =
+    let e = c .before .before in
+    let t = e .before .before .before in
+    let l = t .before .before .before .before in
+    let v = l .loop .inv in
+    let k = t .before .before .before .loop-test .taken in
+    let x = t .before .record-of .result in
+    let o = t .step .result in
+    let n = made-next (passed l) (v .3) k x (reads (t .before)) o (t .step .ensures) (e .if1 .left) (c .settled .result) (c .settled .ensures) in
+    let d = l .before .before .before .args .list .now in
+    let count : l .loop .records + 1 + c .before .due-count .result ≡ length (v .1 ++ added d (l .loop .k) (view (o .state))) =
+    omega (arith, v .2, c .before .due-count .ensures, added-count (v .1) d (l .loop .k) (view (o .state)))
+    in
+    (omega (arith, k), v .1 ++ added d (l .loop .k) (view (o .state)), count, n)
+
+returns-2 : tie.Need-returns-2 Inv-loop μ-loop
+returns-2 c =
+    let l = c .before in
+    let f = l .before .fresh in
+    let v = l .loop .inv in
+    let e = ap (λ p. madeOf p (l .before .before .before .args .list .now)) (sym (f .ensures .plan')) ∙ made-all (passed l) (v .3) (c .loop-test .left) in
+    record { admitted' = sym (ap isMade e); records' = v .2 ∙ sym (ap (λ o. length (recordsOf o)) e) }
+
+pub tally-spec : {M : Type 1} → statement M
+tally-spec =
+    tie.close
+    (tie.spec
+    Inv-loop
+    μ-loop
+    fresh-requires
+    loop-holds
+    entry-at-requires
+    record-of-requires
+    step-requires
+    returns
+    add-records
+    due-count-requires
+    add-records-2
+    settled-requires
+    add-k
+    loop-less
+    loop-again
+    returns-2)

@@ -1,0 +1,84 @@
+-- `put_reports` meets its contract: each turn puts the first report due at its place and gives it.
+use mathlib.Core.Path.{ap}
+use Prim.Native.Nat.{_<_}
+use native.Mathlib.Omega.{arith}
+use lib.ListN.{length}
+use Rattle.machine.specs.View.{view}
+use Rattle.machine.specs.Steps.{Owes}
+use Rattle.kernel.proofs.Giving.{giving-owes, giving-due}
+use Rattle.kernel.proofs.Putting.{Putting, putting-begin, putting-fits, putting-next, putting-done}
+use Rattle.kernel.proofs.write.put_reports.Statement.{statement}
+use Rattle.kernel.proofs.write.put_reports.Tie as tie
+
+abbrev Inv-loop : tie.InvT-loop
+Inv-loop before n i first at₀ out s at = Putting n i first before at s out
+
+abbrev μ-loop : tie.MeasureT-loop
+μ-loop before n i first at₀ out s at = length (view s .due)
+
+loop-holds : tie.Need-loop-holds Inv-loop μ-loop
+loop-holds c = putting-begin (c .before .pre)
+
+due-count-requires : tie.Need-due-count-requires Inv-loop μ-loop
+due-count-requires c κs = tt
+
+owes : (c : tie.Then1 Inv-loop μ-loop) → Owes (c .before .before .loop .s)
+owes c = giving-owes (c .before .before .loop .inv .giving) (omega (arith, c .before .due-count .ensures, c .if1 .taken))
+
+-- the report has a place of its own
+fits : (c : tie.Then1 Inv-loop μ-loop) → c .before .before .loop .at < c .before .before .before .before .args .n
+fits c = putting-fits (c .before .before .loop .inv) (c .before .before .before .before .pre) (owes c .due')
+
+first-due-requires : tie.Need-first-due-requires Inv-loop μ-loop
+first-due-requires c κs = owes c
+
+operand-of-requires : tie.Need-operand-of-requires Inv-loop μ-loop
+operand-of-requires c κs = c .before .first-due .ensures .kind'
+
+put-requires : tie.Need-put-requires Inv-loop μ-loop
+put-requires c κs =
+    let t = c .before .before .before in
+    (fits t, omega (arith, t .before .before .loop .inv .size, t .before .before .before .before .pre .room))
+
+delivered-requires : tie.Need-delivered-requires Inv-loop μ-loop
+delivered-requires c κs = owes (c .before .before .before .before .before .before)
+
+add-at : tie.Need-add-at Inv-loop μ-loop
+add-at c =
+    let t = c .before .before .before .before .before .before .before in
+    record { fits = omega (arith, fits t, t .before .before .before .before .fits .n) }
+
+loop-less : tie.Need-loop-less Inv-loop μ-loop
+loop-less c =
+    let f = c .before .before .before .before .before .before in
+    omega (arith, ap length (giving-due (f .before .before .before .loop .inv .giving) (f .first-due .ensures) (c .delivered .ensures)))
+
+loop-again : tie.Need-loop-again Inv-loop μ-loop
+loop-again c =
+    let p = c .before .before .before in
+    let f = p .before .before .before in
+    putting-next (f .before .before .before .loop .inv) (f .first-due .result) (p .before .operand-of .result) (c .delivered .result) (p .put .last .0) (f .first-due .ensures) (c .delivered .ensures) (p .before .operand-of .ensures) (p .put .ensures)
+
+same-length : tie.Need-same-length Inv-loop μ-loop
+same-length c = c .before .before .loop .inv .size
+
+returns : tie.Need-returns Inv-loop μ-loop
+returns c = putting-done (c .before .before .loop .inv) (omega (arith, c .before .due-count .ensures, c .if1 .left))
+
+pub put-reports-spec : {M : Type 1} → statement M
+put-reports-spec =
+    tie.close
+    (tie.spec
+    Inv-loop
+    μ-loop
+    loop-holds
+    due-count-requires
+    first-due-requires
+    operand-of-requires
+    put-requires
+    delivered-requires
+    add-at
+    loop-less
+    loop-again
+    same-length
+    returns)

@@ -1,0 +1,58 @@
+// A first run over the calls: whether the machine admits each, and how many records calls and reports make.
+ghost use lib.Dec.{T};
+ghost use Rattle.model.specs.Formed.{formed};
+ghost use Rattle.machine.specs.View.{planOf, view};
+ghost use Rattle.kernel.specs.Contracts.{Passed, Settles, Counts, madeOf};
+use dump::layout::entry_at;
+use dump::records::record_of;
+use machine::state::State;
+use machine::step::step;
+use plan::Plan;
+
+// Whether every call is admitted, and how many records there are, 0 where one is not.
+pub struct Counted {
+    pub admitted: bool,
+    pub records: usize,
+}
+
+// Every report due is given: see model, Bench.deliverAll.
+pub(crate) fn settled(state: State) -> State
+    requires { ⌜ T (formed (planOf (state .machine)) (view state)) ⌝ }
+    ensures { λ r. ⌜ Settles r state ⌝ }
+{
+    let mut s = state;
+    while 0 < s.due_count() {
+        let r = s.first_due();
+        s = s.delivered(r);
+    }
+    s
+}
+
+// The n calls of a list, each made with earlier reports already given: see model, Bench.bench.
+pub(crate) fn tally(plan: Plan, ceilings: &[u8; 16], list: &[u8], n: usize) -> Counted
+    requires { ⌜ Passed plan (now ceilings) (now list) n ⌝ }
+    ensures { λ r. ⌜ Counts r (madeOf plan (now (list .entry))) ⌝ }
+{
+    let mut s = State::fresh(plan);
+    let mut who: u8 = 255;
+    let mut records: usize = 0;
+    let mut k: usize = 0;
+    while k < n {
+        let o = step(s, ceilings, who, record_of(entry_at(list, n, k)));
+        let moved = o.state;
+        if o.rule != 0 {
+            return Counted {
+                admitted: false,
+                records: 0,
+            };
+        }
+        records = records + 1 + moved.due_count();
+        s = settled(moved);
+        who = o.chosen;
+        k += 1;
+    }
+    Counted {
+        admitted: true,
+        records,
+    }
+}
