@@ -6,4 +6,5 @@ pub mod Codec
 pub mod Wider
 pub mod Encoded
 pub mod Decoded
+pub mod Places
 pub mod Laws

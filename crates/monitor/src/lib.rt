@@ -2,3 +2,4 @@
 pub mod walk; // walk.rt: the one loop over records
 pub mod check; // check.rt: the whole check of a plan and a dump
 pub mod live; // live.rt: the watch state and the live step
+pub mod lent; // lent.rt: the live step on a watch state behind a reference
