@@ -25,7 +25,7 @@ pub struct Called {
 
 impl Machine {
     // At the start all are dormant: see model, State.start.
-    pub(crate) fn start(plan: Plan) -> Machine
+    pub fn start(plan: Plan) -> Machine
         ensures { λ r. ⌜ Starts r plan ⌝ }
     {
         let z = Slot { state: 0, value: 0 };
@@ -41,7 +41,7 @@ impl Machine {
     }
 
     // Create: see model, Calls.create.
-    pub(crate) fn create(self, thread: u8) -> Called
+    pub fn create(self, thread: u8) -> Called
         requires { ⌜ Creates self thread ⌝ }
         ensures { λ r. ⌜ Meets r self (create thread (idle self)) ⌝ }
     {
@@ -61,7 +61,7 @@ impl Machine {
     }
 
     // Tick: see model, Calls.tick.
-    pub(crate) fn tick(self) -> Called
+    pub fn tick(self) -> Called
         requires { ⌜ Ticks self ⌝ }
         ensures { λ r. ⌜ Meets r self (tick (idle self)) ⌝ }
     {
@@ -94,7 +94,7 @@ impl Machine {
     }
 
     // Delay: see model, Calls.delay.
-    pub(crate) fn delay(self, caller: u8, wait: Wait) -> Called
+    pub fn delay(self, caller: u8, wait: Wait) -> Called
         requires { ⌜ Runs self caller ⌝ }
         ensures { λ r. ⌜ Meets r self (delay caller (wait .0) (idle self)) ⌝ }
     {
@@ -114,7 +114,7 @@ impl Machine {
     }
 
     // Relinquish: see model, Calls.relinquish.
-    pub(crate) fn relinquish(self, ceilings: &[u8; 16], caller: u8) -> Called
+    pub fn relinquish(self, ceilings: &[u8; 16], caller: u8) -> Called
         requires { ⌜ Runs self caller × Ceilings self (now ceilings) ⌝ }
         ensures { λ r. ⌜ Meets r self (relinquish (planOf self) caller (idle self)) ⌝ }
     {
@@ -138,7 +138,7 @@ impl Machine {
     }
 
     // End: see model, Calls.end.
-    pub(crate) fn end(self, caller: u8) -> Called
+    pub fn end(self, caller: u8) -> Called
         requires { ⌜ Runs self caller ⌝ }
         ensures { λ r. ⌜ Meets r self (end caller (idle self)) ⌝ }
     {
@@ -156,7 +156,7 @@ impl Machine {
     }
 
     // Take: see model, Calls.take.
-    pub(crate) fn take(self, ceilings: &[u8; 16], caller: u8, section: u8) -> Called
+    pub fn take(self, ceilings: &[u8; 16], caller: u8, section: u8) -> Called
         requires { ⌜ Takes self caller section × Ceilings self (now ceilings) ⌝ }
         ensures { λ r. ⌜ Meets r self (take (planOf self) caller section (idle self)) ⌝ }
     {
@@ -189,7 +189,7 @@ impl Machine {
     }
 
     // Give: see model, Calls.give.
-    pub(crate) fn give(self, ceilings: &[u8; 16], caller: u8, section: u8) -> Called
+    pub fn give(self, ceilings: &[u8; 16], caller: u8, section: u8) -> Called
         requires { ⌜ Gives self caller section × Ceilings self (now ceilings) ⌝ }
         ensures { λ r. ⌜ Meets r self (give (planOf self) caller section (idle self)) ⌝ }
     {
@@ -242,7 +242,7 @@ impl Machine {
 
 impl Called {
     // After each call, where this thread is chosen: see model, Calls.switch.
-    pub(crate) fn switch(self, chosen: u8) -> Called
+    pub fn switch(self, chosen: u8) -> Called
         requires { ⌜ Unswitched self chosen ⌝ }
         ensures { λ r. ⌜ Switches r self ⌝ }
     {

@@ -95,7 +95,7 @@ fn report_rule(first: Report, given: Report) -> u8
 }
 
 // The first broken rule, 0 if there is none: see model, Rules.broken. The chosen thread is the caller.
-pub(crate) fn broken(state: State, ceilings: &[u8; 16], chosen: u8, entry: Record) -> u8
+pub fn broken(state: State, ceilings: &[u8; 16], chosen: u8, entry: Record) -> u8
     requires { ⌜ Steps state (now ceilings) chosen entry ⌝ }
     ensures { λ r. ⌜ r ≡ ruleNumber (broken (planOf (state .machine)) (view state) (recordOf entry)) ⌝ }
 {

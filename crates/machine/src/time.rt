@@ -14,7 +14,7 @@ pub struct Wait(pub u16);
 
 impl Tick {
     // The tick number at which a wait that begins now ends.
-    pub(crate) fn after(self, wait: Wait) -> Tick
+    pub fn after(self, wait: Wait) -> Tick
         requires { ⌜ self .0 ≤ lastTick ⌝ }
         ensures { λ r. ⌜ r .0 ≡ self .0 + wait .0 + 1 ⌝ }
     {
@@ -24,7 +24,7 @@ impl Tick {
     }
 
     // The next tick number.
-    pub(crate) fn next(self) -> Tick
+    pub fn next(self) -> Tick
         requires { ⌜ self .0 < lastTick ⌝ }
         ensures { λ r. ⌜ r .0 ≡ self .0 + 1 ⌝ }
     {
