@@ -12,6 +12,16 @@ use Rattle.plan.proofs.Answers.{zero-none}
 use Rattle.dump.specs.Layout.{recordCount, kindAt, operandAt}
 use Rattle.dump.specs.Questions.{kindAllowed, operandFits, hasKinds, hasOperands, questions, refusal, Whole}
 use Rattle.dump.proofs.Answers as answers
+-- numbers in two bytes
+pub use Rattle.dump.proofs.Words.{Stands}
+-- one record, its kind and its operand, each way and back
+pub use Rattle.dump.proofs.Codec.{allowed-back, fits-kind, isCallRecord, kind-back, operand-back, operand-fits, record-back}
+-- an operand that fits still fits with more threads and sections
+pub use Rattle.dump.proofs.Wider.{wider}
+-- records written as bytes
+pub use Rattle.dump.proofs.Encoded.{count-stands, decode-encode, encode-kind, encode-length, encode-passes, encode-passes-calls, entryAt, operand-stands, recordAt}
+-- bytes read as records; encoding and decoding are inverse
+pub use Rattle.dump.proofs.Decoded.{decode-length, decoded-allowed, decoded-calls, encode-decode}
 
 module _ (threads sections : ℕ) (callsOnly : Bool) (bytes : List ℕ) where
   -- `refusal` answers 0 only where nothing refuses the bytes

@@ -21,10 +21,10 @@ use Rattle.machine.specs.declared.rules.Record as machine
 use Rattle.dump.specs.Layout.{recordCount, kindAt, operandAt, decode, kindOf, operandOf}
 use Rattle.dump.specs.Questions.{mostRecords, operandFits, refusal, Whole}
 use Rattle.dump.specs.Reading.{Reads}
-use Rattle.dump.proofs.Codec.{isCallRecord, kind-back, operand-back, fits-kind, allowed-back}
-use Rattle.dump.proofs.Encoded.{entryAt}
-use Rattle.dump.proofs.Decoded.{decode-length, decoded-calls}
-use Rattle.dump.proofs.Wider.{wider}
+use Rattle.dump.proofs.Laws.{isCallRecord, kind-back, operand-back, fits-kind, allowed-back}
+use Rattle.dump.proofs.Laws.{entryAt}
+use Rattle.dump.proofs.Laws.{decode-length, decoded-calls}
+use Rattle.dump.proofs.Laws.{wider}
 use Rattle.dump.proofs.Laws as dumps
 use Rattle.kernel.specs.Contracts.{Passed}
 

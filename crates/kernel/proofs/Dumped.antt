@@ -23,9 +23,9 @@ use Rattle.plan.proofs.Laws.{refusal-none-valid}
 use Rattle.dump.specs.Layout.{decode, encode}
 use Rattle.dump.specs.Questions as dumps
 use Rattle.dump.specs.Questions.{mostRecords}
-use Rattle.dump.proofs.Codec.{isCallRecord}
-use Rattle.dump.proofs.Encoded.{decode-encode, encode-passes, encode-passes-calls}
-use Rattle.dump.proofs.Decoded.{decode-length, decoded-allowed, encode-decode}
+use Rattle.dump.proofs.Laws.{isCallRecord}
+use Rattle.dump.proofs.Laws.{decode-encode, encode-passes, encode-passes-calls}
+use Rattle.dump.proofs.Laws.{decode-length, decoded-allowed, encode-decode}
 use Rattle.dump.proofs.Laws as dump-laws
 use Rattle.kernel.specs.Answers.{wrote, made, isMade, recordsOf, bytesFor, answer, inFront, output}
 use Rattle.kernel.proofs.Answering.{Answers, all-pass}

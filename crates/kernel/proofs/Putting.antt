@@ -10,7 +10,7 @@ use Rattle.machine.specs.declared.reports.Report as code
 use Rattle.machine.specs.Lists.{reportOf}
 use Rattle.machine.specs.View.{view}
 use Rattle.machine.specs.Steps.{FirstDue, Delivers}
-use Rattle.machine.proofs.ReportKinds.{kind-is}
+use Rattle.machine.proofs.Laws.{kind-is}
 use Rattle.dump.specs.Layout.{kindOf, operandOf}
 use Rattle.kernel.specs.Contracts.{placed, placedFrom, ReportsFit, Places}
 use Rattle.kernel.proofs.Giving.{Giving, giving-begin, giving-due, giving-next, giving-done, none-left}

@@ -6,7 +6,7 @@ use Rattle.model.specs.Records.{report}
 use Rattle.machine.specs.declared.reports.Report.{Report}
 use Rattle.machine.specs.Lists.{reportOf}
 use Rattle.machine.specs.Steps.{IsReport}
-use Rattle.machine.proofs.ReportKinds.{by-kind}
+use Rattle.machine.proofs.Laws.{by-kind}
 use Rattle.dump.specs.Layout.{nobody, operandOf}
 
 module _ (r : Report) where

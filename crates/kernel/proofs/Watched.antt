@@ -17,7 +17,7 @@ use Rattle.dump.specs.Layout.{decode, encode}
 use Rattle.dump.specs.Questions as dumps
 use Rattle.monitor.specs.Answers as watch
 use Rattle.monitor.specs.Answers.{judged, orElse, firstRefusal, check}
-use Rattle.monitor.proofs.Passed.{judged-passed}
+use Rattle.monitor.proofs.Laws.{judged-passed}
 use Rattle.kernel.specs.Answers.{wrote, bytesFor, answer, output}
 use Rattle.kernel.proofs.Wrote.{wrote-all}
 use Rattle.kernel.proofs.Laws.{written-clean, written-passes, clean-written}

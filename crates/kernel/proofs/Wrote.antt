@@ -17,7 +17,7 @@ use Rattle.plan.proofs.Answers.{all-Yes}
 use Rattle.dump.specs.Layout.{encode}
 use Rattle.dump.specs.Questions as dumps
 use Rattle.dump.specs.Questions.{mostRecords}
-use Rattle.dump.proofs.Encoded.{encode-length}
+use Rattle.dump.proofs.Laws.{encode-length}
 use Rattle.kernel.specs.Answers.{wrote, made, isMade, recordsOf, bytesFor, questions, orElse, refusal, answerWith, answer, inFront, outputWith, output}
 
 -- one of two answers is none only if both are

@@ -26,6 +26,8 @@ use Rattle.machine.proofs.Views.{sized}
 use Rattle.machine.proofs.Facts.{facts}
 use Rattle.machine.proofs.Chosen.{listed}
 use Rattle.machine.proofs.Owing.{unowed}
+-- what a report of the code stands for, by the number of its kind
+pub use Rattle.machine.proofs.ReportKinds.{by-kind, kind-is}
 -- who is chosen does not depend on what is due
 pub use Rattle.machine.proofs.Switched.{chosen-due}
 

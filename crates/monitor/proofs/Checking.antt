@@ -31,7 +31,7 @@ use Rattle.dump.specs.Layout.{recordCount, decode}
 use Rattle.dump.specs.Questions as dumps
 use Rattle.dump.specs.Questions.{hasOperands}
 use Rattle.dump.proofs.Laws.{refusal-zero, accepted}
-use Rattle.dump.proofs.Decoded.{decode-length}
+use Rattle.dump.proofs.Laws.{decode-length}
 use Rattle.monitor.specs.declared.walk.Walked.{Walked}
 use Rattle.monitor.specs.Answers.{refused, judged, orElse, firstRefusal, answer, check}
 use Rattle.monitor.specs.Contracts.{Walks, WalkEnds}

@@ -6,3 +6,5 @@ pub use Rattle.monitor.proofs.Promised.{promise-of-bytes, promise-befor
 pub use Rattle.monitor.proofs.Stepwise.{stepwise, stepwise-bytes, begin-fresh}
 -- the known runs as bytes
 pub use Rattle.monitor.proofs.KnownBytes.{known-bytes, run-A-written, run-A, run-P12}
+-- what plan and dump tell that the whole check does not refuse
+pub use Rattle.monitor.proofs.Passed.{Passed, passed, judged-passed}

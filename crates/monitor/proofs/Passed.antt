@@ -16,7 +16,7 @@ use Rattle.plan.proofs.Loops.{length-listed}
 use Rattle.plan.proofs.Laws.{refusal-none-valid}
 use Rattle.dump.specs.Layout.{decode}
 use Rattle.dump.specs.Questions as dumps
-use Rattle.dump.proofs.Decoded.{decoded-allowed}
+use Rattle.dump.proofs.Laws.{decoded-allowed}
 use Rattle.monitor.specs.Answers.{judged, orElse, firstRefusal, answer, check}
 
 pub record Passed (plan dump : List ℕ) : Type 0 where

@@ -29,9 +29,9 @@ use Rattle.plan.proofs.Answers.{in-range}
 use Rattle.plan.proofs.Loops.{listed}
 use Rattle.dump.specs.Layout.{recordCount, kindAt, operandAt, decode, kindOf, operandOf}
 use Rattle.dump.specs.Questions.{mostRecords, kindAllowed, operandFits}
-use Rattle.dump.proofs.Codec.{kind-back, operand-back, record-back, operand-fits, fits-kind}
-use Rattle.dump.proofs.Encoded.{entryAt}
-use Rattle.dump.proofs.Decoded.{decode-length}
+use Rattle.dump.proofs.Laws.{kind-back, operand-back, record-back, operand-fits, fits-kind}
+use Rattle.dump.proofs.Laws.{entryAt}
+use Rattle.dump.proofs.Laws.{decode-length}
 use Rattle.dump.proofs.Laws.{whole, entry-passes}
 use Rattle.monitor.specs.Answers.{firstRefusal}
 use Rattle.monitor.specs.Watching as watching

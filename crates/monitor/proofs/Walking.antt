@@ -38,9 +38,9 @@ use Rattle.machine.proofs.Laws.{stands-formed, ceilings-of}
 use Rattle.dump.specs.Layout.{recordCount, kindAt, operandAt, recordOf, decode, kindOf}
 use Rattle.dump.specs.Questions.{operandFits}
 use Rattle.dump.specs.Reading.{Reads}
-use Rattle.dump.proofs.Codec.{fits-kind, kind-back, allowed-back}
-use Rattle.dump.proofs.Wider.{wider}
-use Rattle.dump.proofs.Encoded.{entryAt}
+use Rattle.dump.proofs.Laws.{fits-kind, kind-back, allowed-back}
+use Rattle.dump.proofs.Laws.{wider}
+use Rattle.dump.proofs.Laws.{entryAt}
 use Rattle.monitor.specs.Contracts.{ends, Runs, Lent, Walks, WalkEnds}
 
 -- the verdict of a run whose first record has number i, and the state in which it ends
