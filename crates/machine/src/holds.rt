@@ -14,11 +14,13 @@ ghost use Rattle.model.specs.Rules.{holdsNone, holdsNot, lastTaken};
 ghost use Rattle.model.specs.Formed.{holdInRange, times, heldOnce};
 ghost use Rattle.machine.specs.Lists.{numbered, held, ceilingIn};
 
+#[repr(C)]
 pub struct Hold {
     pub section: u8,
     pub thread: u8,
 }
 
+#[repr(C)]
 pub struct Holds {
     pub items: [Hold; 16],
     pub count: usize,

@@ -18,6 +18,7 @@ use slots::Slot;
 use time::Tick;
 
 // Plain numbers only, since a state may be lent from outside. `reported` is the thread of the latest Switch given, 255 for nobody.
+#[repr(C)]
 pub struct Machine {
     pub plan: Plan,
     pub tick: Tick,

@@ -11,6 +11,7 @@ ghost use Rattle.machine.specs.Lists.{numbered, queued, currentIn};
 use plan::ceilings::greater;
 use plan::lookup::base;
 
+#[repr(C)]
 pub struct Queue {
     pub items: [u8; 16],
     pub count: usize,

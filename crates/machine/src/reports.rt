@@ -10,11 +10,13 @@ ghost use Rattle.machine.specs.Lists.{reportOf, owed};
 use plan::Plan;
 
 // A kind by document 01's number, 16 to 20, and the thread that it names, 255 for nobody.
+#[repr(C)]
 pub struct Report {
     pub kind: u8,
     pub who: u8,
 }
 
+#[repr(C)]
 pub struct Reports {
     pub items: [Report; 17],
     pub count: usize,

@@ -11,6 +11,7 @@ use crate::time::LAST_WAKE;
 use crate::time::Tick;
 
 // A condition by its number: 0 dormant, 1 ready, 2 asleep until a tick number, 3 waiting for a section.
+#[repr(C)]
 pub struct Slot {
     pub state: u8,
     pub value: u32,

@@ -9,6 +9,7 @@ use crate::reports::Reports;
 use plan::Plan;
 
 // The reports due are those behind the first `given`.
+#[repr(C)]
 pub struct State {
     pub machine: Machine,
     pub due: Reports,

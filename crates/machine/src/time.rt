@@ -8,6 +8,7 @@ pub const LAST_TICK: u32 = 4000000000;
 
 pub const LAST_WAKE: u32 = 4000065536;
 
+#[repr(C)]
 pub struct Tick(pub u32);
 
 pub struct Wait(pub u16);

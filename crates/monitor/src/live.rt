@@ -14,6 +14,7 @@ use plan::bytes;
 use plan::ceilings::ceilings;
 
 // A state of the machine and the rule of a breach that is stored, 0 if there is none. Plain numbers only, since it may be lent from outside.
+#[repr(C)]
 pub struct Watch {
     pub state: State,
     pub rule: u8,

@@ -6,6 +6,7 @@ pub mod questions; // questions.rt: questions 1, 3 and 4 of a plan's numbers
 pub mod input; // input.rt: a plan in front of something else
 
 // Plain numbers, so that a plan can stand in a state that is lent from outside.
+#[repr(C)]
 pub struct Plan {
     pub threads: usize,
     pub sections: usize,

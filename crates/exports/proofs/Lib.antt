@@ -1,0 +1,1 @@
+-- The proofs of this library's functions are beside this file.

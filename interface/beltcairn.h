@@ -1,0 +1,179 @@
+/*
+ * beltcairn: the proved kernel watch and bench kernel of a field module, for C and C++.
+ * Link libexports.a, which `rt staticlib exports` writes; of other libraries it needs memcpy and memset alone. x86-64 Linux.
+ *
+ * Bytes. Numbers of two bytes have the low byte first.
+ *   plan   T (1 to 16), S (0 to 16), T base priorities (1 to 64, greater is more urgent), T needs of two bytes: bit s set means that the
+ *          thread may take section s. Length 2 + 3T.
+ *   dump   N in two bytes (0 to 20,000), N kind bytes, N operands of two bytes. Length 2 + 3N.
+ *   list   a call list: as a dump, with kinds 1 to 7 only.
+ *
+ * Kinds: Create 1, Delay 2, Relinquish 3, End 4, Take 5, Give 6, Tick 7; Ready 16, Switch 17, Won 18, Lost 19, Yield 20.
+ * Operand: thread below T for Create and reports (or 65535 for Switch to nobody), section below S for Take and Give, 1 to 65535 for Delay,
+ * 0 for Relinquish, End and Tick.
+ *
+ * Answers. 0 says that nothing was refused and no rule is broken.
+ *
+ * The question that has the answer No; what was lent keeps its content:
+ *    1  Has the plan 2 bytes or more, with T and S in range?
+ *    2  Is it exactly 2 + 3T long?
+ *    3  Is every priority 1 to 64?
+ *    4  Is every needs bit at S or above zero?
+ *    5  Has the dump or list 2 bytes or more, and N at most 20,000?
+ *    6  Is it exactly 2 + 3N long?
+ *    7  Is every kind allowed?
+ *    8  Is every operand allowed for its kind?
+ *    9  (bench) Does the machine admit every call, each made with earlier reports already given?
+ *   10  (bench) Are calls and reports together at most 20,000?
+ *   11  (bench) Is the lent output at least 2 + 3 times their number long?
+ *   12  (step) Is the lent watch state well formed? No: its plan fails 1 to 4; a thread or section is not below T or S; a report or stored rule
+ *       is none of those here; the tick number is above 4,000,000,000 or a sleeper's above 4,000,065,536; a section is held twice; a thread is
+ *       listed twice in the line or the waits, or is not in exactly one of its four conditions; or more than T + 1 reports are due.
+ *       Asked before 7.
+ *   13  (step) Is it no Tick at tick number 4,000,000,000? Asked after 8.
+ *
+ * The rule that a record breaks, the first that has the answer No:
+ *   21  (calls) Is nothing due?
+ *   22  (kinds 2 to 6) Does a thread run?
+ *   23  (Create) Is the thread dormant?
+ *   24  (Delay, End) Does the caller hold no section?
+ *   25  (Take) Does the caller need it?
+ *   26  (Take) Is it not held by the caller?
+ *   27  (Give) Is it the one the caller took last of those it still holds?
+ *   28  (reports) Is a report due?
+ *   29  Is the first due of this kind?
+ *   30  Does it name this thread?
+ *
+ * Pointers. Every pointer must be valid for its length, a pointer to bytes also where the length is 0 (any address but NULL), and what a
+ * function writes must not overlap anything else that it is passed.
+ */
+#ifndef BELTCAIRN_H
+#define BELTCAIRN_H
+
+#include <stddef.h>
+#include <stdint.h>
+
+#ifdef __cplusplus
+#define BELTCAIRN_ASSERT(holds) static_assert(holds, #holds)
+extern "C" {
+#else
+#define BELTCAIRN_ASSERT(holds) _Static_assert(holds, #holds)
+#endif
+
+/* A plan's numbers. 64 bytes. */
+struct Plan {
+    size_t threads;     /* offset  0: T, 1 to 16 */
+    size_t sections;    /* offset  8: S, 0 to 16 */
+    uint8_t bases[16];  /* offset 16: the base priorities, the first T in use */
+    uint16_t needs[16]; /* offset 32: the needs, bit s for section s, the first T in use */
+};
+
+/* The condition of a thread. 8 bytes. */
+struct Slot {
+    uint8_t state;  /* offset 0: 0 dormant, 1 ready, 2 asleep until a tick number, 3 waiting for a section */
+    uint32_t value; /* offset 4: that tick number or section; 0 where there is none */
+};
+
+/* Threads in order. 24 bytes. */
+struct Queue {
+    uint8_t items[16]; /* offset  0: the first `count` in use */
+    size_t count;      /* offset 16 */
+};
+
+/* A section and the thread that holds it. 2 bytes. */
+struct Hold {
+    uint8_t section; /* offset 0 */
+    uint8_t thread;  /* offset 1 */
+};
+
+/* The holds in order of taking. 40 bytes. */
+struct Holds {
+    struct Hold items[16]; /* offset  0: the first `count` in use */
+    size_t count;          /* offset 32 */
+};
+
+/* A report. 2 bytes. */
+struct Report {
+    uint8_t kind; /* offset 0: 16 to 20 */
+    uint8_t who;  /* offset 1: the thread that it names, 255 for nobody */
+};
+
+/* Reports in order. 48 bytes. */
+struct Reports {
+    struct Report items[17]; /* offset  0: the first `count` in use */
+    size_t count;            /* offset 40 */
+};
+
+/* What the machine remembers, but for the reports due. 296 bytes. */
+struct Machine {
+    struct Plan plan;      /* offset   0 */
+    uint32_t tick;         /* offset  64: the tick number, Tick records so far */
+    struct Slot slots[16]; /* offset  68: the condition of each thread, the first T in use */
+    struct Queue queue;    /* offset 200: the line, the ready threads in order of arrival */
+    struct Holds holds;    /* offset 224 */
+    struct Queue waits;    /* offset 264: the waiting threads in order of their Take */
+    uint8_t reported;      /* offset 288: the thread of the latest Switch given, 255 for nobody */
+};
+
+/* The machine and its reports. 352 bytes. */
+struct State {
+    struct Machine machine; /* offset   0 */
+    struct Reports due;     /* offset 296: the reports of the latest call, in order */
+    size_t given;           /* offset 344: how many of them were given; those behind are due */
+};
+
+/* The watch state. 360 bytes, aligned to 8. It holds no pointer, so it can be copied and kept. The bytes between its fields mean nothing:
+ * compare states field by field. */
+struct Watch {
+    struct State state; /* offset   0 */
+    uint8_t rule;       /* offset 352: the rule of a breach that is stored, 0 if there is none */
+};
+
+BELTCAIRN_ASSERT(sizeof(struct Plan) == 64);
+BELTCAIRN_ASSERT(sizeof(struct Slot) == 8);
+BELTCAIRN_ASSERT(sizeof(struct Queue) == 24);
+BELTCAIRN_ASSERT(sizeof(struct Holds) == 40);
+BELTCAIRN_ASSERT(sizeof(struct Reports) == 48);
+BELTCAIRN_ASSERT(sizeof(struct Machine) == 296);
+BELTCAIRN_ASSERT(sizeof(struct State) == 352);
+BELTCAIRN_ASSERT(sizeof(struct Watch) == 360);
+
+/*
+ * The whole check of a plan and a dump.
+ * 0: clean; *at is the number of records, *due the number of reports due behind the last.
+ * 1 to 8: refused; *at and *due keep what they had.
+ * 21 to 30: a breach; *at is the record, from 0; *due keeps what it had.
+ */
+uint8_t beltcairn_check(const uint8_t *plan, size_t plan_len, const uint8_t *dump, size_t dump_len, uint64_t *at, uint64_t *due);
+
+/*
+ * The bench kernel: the dump of a call list, calls with their reports behind them, at the front of the output.
+ * 0: written; *records is the number of records, and the first 2 + 3 times as many bytes of the output are the dump; the rest is untouched.
+ * 1 to 11: refused; the output and *records keep what they had. 60,002 bytes are room for every dump.
+ */
+uint8_t beltcairn_bench(const uint8_t *plan, size_t plan_len, const uint8_t *list, size_t list_len, uint8_t *out, size_t out_len,
+                        uint64_t *records);
+
+/*
+ * The watch state of a plan: all dormant, tick number 0, nobody reported, nothing due, no breach stored.
+ * 0: made; what *watch had is of no account, but it is read, so it has to be initialised (zeroes will do).
+ * 1 to 4: refused; *watch keeps what it had.
+ */
+uint8_t beltcairn_begin(const uint8_t *plan, size_t plan_len, struct Watch *watch);
+
+/*
+ * Advances a watch state by one record. Any state may be lent, also one that beltcairn_begin did not make.
+ * 0: clean; *due is the number of reports due now.
+ * 7, 8, 12, 13: refused; *watch and *due keep what they had.
+ * 21 to 30: that rule is broken, by this record or, if the state has a breach stored, by an earlier one; *due keeps what it had. A new breach
+ * changes nothing in *watch but `rule`.
+ */
+uint8_t beltcairn_step(struct Watch *watch, uint8_t kind, uint16_t operand, uint64_t *due);
+
+#undef BELTCAIRN_ASSERT
+
+#ifdef __cplusplus
+}
+#endif
+
+#endif

@@ -1,0 +1,226 @@
+/* Calls every function of the library as a C program does, and holds the answers and the layout to what document 01 and the header state. */
+#include "expect.h"
+#include "runs.h"
+
+#include <stdio.h>
+#include <string.h>
+
+enum { FILL = 0xaa, ROOM = 60002 };
+
+static int passed, failed;
+
+void expect(int holds, const char *name, const char *what, const char *file, int line)
+{
+    if (holds) {
+        passed++;
+    } else {
+        failed++;
+        printf("%s:%d: %s: %s\n", file, line, name, what);
+    }
+}
+
+/* The bytes of a dump or a call list; its length is 2 + 3n. */
+static size_t lay_out(uint8_t *bytes, const struct Record *records, size_t n)
+{
+    bytes[0] = (uint8_t)(n % 256);
+    bytes[1] = (uint8_t)(n / 256);
+    for (size_t i = 0; i < n; i++) {
+        bytes[2 + i] = records[i].kind;
+        bytes[2 + n + 2 * i] = (uint8_t)(records[i].operand % 256);
+        bytes[3 + n + 2 * i] = (uint8_t)(records[i].operand / 256);
+    }
+    return 2 + 3 * n;
+}
+
+static int filled(const uint8_t *bytes, size_t from, size_t to)
+{
+    while (from < to && bytes[from] == FILL) {
+        from++;
+    }
+    return from == to;
+}
+
+static int same_machine(const struct Machine *a, const struct Machine *b)
+{
+    int slots = 1;
+    for (int i = 0; i < 16; i++) {
+        slots = slots && a->slots[i].state == b->slots[i].state && a->slots[i].value == b->slots[i].value;
+    }
+    return slots && a->plan.threads == b->plan.threads && a->plan.sections == b->plan.sections &&
+           memcmp(a->plan.bases, b->plan.bases, 16) == 0 && memcmp(a->plan.needs, b->plan.needs, 32) == 0 && a->tick == b->tick &&
+           memcmp(a->queue.items, b->queue.items, 16) == 0 && a->queue.count == b->queue.count &&
+           memcmp(a->holds.items, b->holds.items, 32) == 0 && a->holds.count == b->holds.count &&
+           memcmp(a->waits.items, b->waits.items, 16) == 0 && a->waits.count == b->waits.count && a->reported == b->reported;
+}
+
+int same(const struct Watch *a, const struct Watch *b)
+{
+    return same_machine(&a->state.machine, &b->state.machine) && memcmp(a->state.due.items, b->state.due.items, 34) == 0 &&
+           a->state.due.count == b->state.due.count && a->state.given == b->state.given && a->rule == b->rule;
+}
+
+/* The verdict of the whole check. */
+static void check_whole(const struct Run *run)
+{
+    static uint8_t dump[ROOM];
+    size_t dump_len = lay_out(dump, run->records, run->count);
+    uint64_t at = KEPT, due = KEPT;
+    EXPECT(run->name, beltcairn_check(run->plan, run->plan_len, dump, dump_len, &at, &due) == run->answer);
+    EXPECT(run->name, at == run->at);
+    EXPECT(run->name, due == (run->answer == 0 ? run->due : KEPT));
+}
+
+/* The same verdict from live steps: clean up to the record that breaks the rule; the breach is stored, and answered from then on. */
+static void check_steps(const struct Run *run)
+{
+    struct Watch watch, before;
+    uint64_t due = KEPT;
+    memset(&watch, 0, sizeof watch);
+    EXPECT(run->name, beltcairn_begin(run->plan, run->plan_len, &watch) == 0);
+    for (size_t i = 0; i < run->at; i++) {
+        EXPECT(run->name, beltcairn_step(&watch, run->records[i].kind, run->records[i].operand, &due) == 0);
+    }
+    EXPECT(run->name, run->count == 0 || run->answer != 0 || due == run->due);
+    if (run->answer != 0) {
+        const struct Record *wrong = &run->records[run->at];
+        before = watch;
+        before.rule = run->answer;
+        due = KEPT;
+        EXPECT(run->name, beltcairn_step(&watch, wrong->kind, wrong->operand, &due) == run->answer);
+        EXPECT(run->name, due == KEPT && same(&watch, &before));
+        EXPECT(run->name, beltcairn_step(&watch, TICK, 0, &due) == run->answer);
+        EXPECT(run->name, due == KEPT && same(&watch, &before));
+    }
+}
+
+/* The calls of a clean run with nothing due make its dump again, and no byte behind it changes. */
+static void check_bench(const struct Run *run)
+{
+    static uint8_t dump[ROOM], list[ROOM], out[ROOM];
+    struct Record calls[MOST];
+    size_t dump_len = lay_out(dump, run->records, run->count), n = 0;
+    uint64_t records = KEPT;
+    for (size_t i = 0; i < run->count; i++) {
+        if (run->records[i].kind < READY) {
+            calls[n++] = run->records[i];
+        }
+    }
+    size_t list_len = lay_out(list, calls, n);
+    memset(out, FILL, sizeof out);
+    EXPECT(run->name, beltcairn_bench(run->plan, run->plan_len, list, list_len, out, sizeof out, &records) == 0);
+    EXPECT(run->name, records == run->count && memcmp(out, dump, dump_len) == 0 && filled(out, dump_len, sizeof out));
+    memset(out, FILL, sizeof out);
+    records = KEPT;
+    EXPECT(run->name, beltcairn_bench(run->plan, run->plan_len, list, list_len, out, dump_len - 1, &records) == 11);
+    EXPECT(run->name, records == KEPT && filled(out, 0, sizeof out));
+}
+
+static void check_run(const struct Run *run)
+{
+    check_whole(run);
+    check_steps(run);
+    if (run->answer == 0 && run->due == 0) {
+        check_bench(run);
+    }
+}
+
+/* A plan that question `answer` refuses: by every function that takes one, and nothing that was lent changes. */
+static void refused_plan(uint8_t answer, const uint8_t *plan, size_t plan_len)
+{
+    static const uint8_t empty[2] = {0, 0};
+    struct Watch watch, before;
+    uint8_t out[64];
+    uint64_t at = KEPT, due = KEPT, records = KEPT;
+    memset(&watch, FILL, sizeof watch);
+    memset(out, FILL, sizeof out);
+    before = watch;
+    EXPECT("plan", beltcairn_check(plan, plan_len, empty, 2, &at, &due) == answer && at == KEPT && due == KEPT);
+    EXPECT("plan", beltcairn_bench(plan, plan_len, empty, 2, out, sizeof out, &records) == answer && records == KEPT);
+    EXPECT("plan", filled(out, 0, sizeof out));
+    EXPECT("plan", beltcairn_begin(plan, plan_len, &watch) == answer && same(&watch, &before));
+}
+
+static void refused_plans(void)
+{
+    refused_plan(1, (const uint8_t[]){1}, 1);
+    refused_plan(1, (const uint8_t[]){1}, 0);
+    refused_plan(1, (const uint8_t[]){0, 0}, 2);
+    refused_plan(1, (const uint8_t[]){17, 0}, 2);
+    refused_plan(1, (const uint8_t[]){1, 17, 1, 0, 0}, 5);
+    refused_plan(2, (const uint8_t[]){1, 0, 1, 0}, 4);
+    refused_plan(2, (const uint8_t[]){1, 0, 1, 0, 0, 0}, 6);
+    refused_plan(3, (const uint8_t[]){1, 0, 0, 0, 0}, 5);
+    refused_plan(3, (const uint8_t[]){1, 0, 65, 0, 0}, 5);
+    refused_plan(4, (const uint8_t[]){1, 0, 1, 1, 0}, 5);
+    refused_plan(4, (const uint8_t[]){1, 8, 1, 0, 1}, 5);
+}
+
+/* A dump or a call list that is refused under the plan of run A: the check answers `dump`, the bench kernel `list`; 0 leaves one out. */
+static void refused_bytes(uint8_t dump, uint8_t list, const uint8_t *bytes, size_t len)
+{
+    uint8_t out[64];
+    uint64_t at = KEPT, due = KEPT, records = KEPT;
+    memset(out, FILL, sizeof out);
+    if (dump != 0) {
+        EXPECT("dump", beltcairn_check(runs[0].plan, 11, bytes, len, &at, &due) == dump && at == KEPT && due == KEPT);
+    }
+    if (list != 0) {
+        EXPECT("list", beltcairn_bench(runs[0].plan, 11, bytes, len, out, sizeof out, &records) == list && records == KEPT);
+        EXPECT("list", filled(out, 0, sizeof out));
+    }
+}
+
+static void refused_dumps_and_lists(void)
+{
+    refused_bytes(5, 5, (const uint8_t[]){0}, 0);
+    refused_bytes(5, 5, (const uint8_t[]){0}, 1);
+    refused_bytes(5, 5, (const uint8_t[]){0x21, 0x4e}, 2); /* N = 20,001 */
+    refused_bytes(6, 6, (const uint8_t[]){0x20, 0x4e}, 2); /* N = 20,000 */
+    refused_bytes(6, 6, (const uint8_t[]){1, 0, CREATE, 0}, 4);
+    refused_bytes(6, 6, (const uint8_t[]){0, 0, 0}, 3);
+    refused_bytes(7, 7, (const uint8_t[]){1, 0, 0, 0, 0}, 5);
+    refused_bytes(7, 7, (const uint8_t[]){1, 0, 8, 0, 0}, 5);
+    refused_bytes(7, 7, (const uint8_t[]){1, 0, 21, 0, 0}, 5);
+    refused_bytes(0, 7, (const uint8_t[]){1, 0, READY, 0, 0}, 5);
+    refused_bytes(8, 8, (const uint8_t[]){1, 0, CREATE, 3, 0}, 5);
+    refused_bytes(8, 8, (const uint8_t[]){1, 0, TAKE, 1, 0}, 5);
+    refused_bytes(8, 8, (const uint8_t[]){1, 0, DELAY, 0, 0}, 5);
+    refused_bytes(8, 8, (const uint8_t[]){1, 0, TICK, 1, 0}, 5);
+    refused_bytes(8, 0, (const uint8_t[]){1, 0, SWITCH, 0xfe, 0xff}, 5);
+    refused_bytes(0, 9, (const uint8_t[]){1, 0, RELINQUISH, 0, 0}, 5);
+    refused_bytes(0, 9, (const uint8_t[]){2, 0, CREATE, CREATE, 0, 0, 0, 0}, 8);
+}
+
+/* Two threads of equal priority: 5 records start them, and each Relinquish makes 3. 6,665 of them make 20,000 records; one more is refused. */
+static void most_records(void)
+{
+    static struct Record calls[6668] = {{CREATE, 0}, {CREATE, 1}};
+    static uint8_t list[ROOM], out[ROOM];
+    static const uint8_t plan[8] = {2, 0, 1, 1, 0, 0, 0, 0};
+    uint64_t records = KEPT, at = KEPT, due = KEPT;
+    for (size_t i = 2; i < 6668; i++) {
+        calls[i].kind = RELINQUISH;
+    }
+    size_t len = lay_out(list, calls, 6668);
+    memset(out, FILL, sizeof out);
+    EXPECT("most", beltcairn_bench(plan, 8, list, len, out, sizeof out, &records) == 10);
+    EXPECT("most", records == KEPT && filled(out, 0, sizeof out));
+    len = lay_out(list, calls, 6667);
+    EXPECT("most", beltcairn_bench(plan, 8, list, len, out, sizeof out, &records) == 0 && records == 20000);
+    EXPECT("most", beltcairn_check(plan, 8, out, sizeof out, &at, &due) == 0 && at == 20000 && due == 0);
+}
+
+int main(void)
+{
+    for (size_t i = 0; i < sizeof runs / sizeof runs[0]; i++) {
+        check_run(&runs[i]);
+    }
+    struct Run p12 = run_p12();
+    check_run(&p12);
+    refused_plans();
+    refused_dumps_and_lists();
+    most_records();
+    check_layout();
+    printf("%d passed, %d failed\n", passed, failed);
+    return failed > 0;
+}

@@ -1,0 +1,228 @@
+/* The layout of the watch state: as this compiler lays it out, as the library writes it, and as the library reads it. */
+#include "expect.h"
+
+#include <string.h>
+
+/* Conditions of threads; nobody where a thread is named. */
+enum { DORMANT, IS_READY, ASLEEP, WAITING };
+enum { NOBODY = 255 };
+
+#define SIZE(type, size) EXPECT("size", sizeof(struct type) == (size))
+#define AT(type, field, offset) EXPECT("offset", offsetof(struct type, field) == (offset))
+
+static void sizes_and_offsets(void)
+{
+    SIZE(Plan, 64), AT(Plan, threads, 0), AT(Plan, sections, 8), AT(Plan, bases, 16), AT(Plan, needs, 32);
+    SIZE(Slot, 8), AT(Slot, state, 0), AT(Slot, value, 4);
+    SIZE(Queue, 24), AT(Queue, items, 0), AT(Queue, count, 16);
+    SIZE(Hold, 2), AT(Hold, section, 0), AT(Hold, thread, 1);
+    SIZE(Holds, 40), AT(Holds, items, 0), AT(Holds, count, 32);
+    SIZE(Report, 2), AT(Report, kind, 0), AT(Report, who, 1);
+    SIZE(Reports, 48), AT(Reports, items, 0), AT(Reports, count, 40);
+    SIZE(Machine, 296), AT(Machine, plan, 0), AT(Machine, tick, 64), AT(Machine, slots, 68), AT(Machine, queue, 200);
+    AT(Machine, holds, 224), AT(Machine, waits, 264), AT(Machine, reported, 288);
+    SIZE(State, 352), AT(State, machine, 0), AT(State, due, 296), AT(State, given, 344);
+    SIZE(Watch, 360), AT(Watch, state, 0), AT(Watch, rule, 352);
+    EXPECT("alignment", _Alignof(struct Watch) == 8);
+}
+
+/* One line of threads: their number, and the first three. */
+static int lists(const struct Queue *queue, size_t count, uint8_t first, uint8_t second, uint8_t third)
+{
+    const uint8_t named[3] = {first, second, third};
+    return queue->count == count && memcmp(queue->items, named, count < 3 ? count : 3) == 0;
+}
+
+static int holds(const struct Holds *holds, size_t i, uint8_t section, uint8_t thread)
+{
+    return i < holds->count && holds->items[i].section == section && holds->items[i].thread == thread;
+}
+
+static int owes(const struct State *state, size_t i, uint8_t kind, uint8_t who)
+{
+    const struct Report *report = &state->due.items[state->given + i];
+    return state->given + i < state->due.count && report->kind == kind && report->who == who;
+}
+
+static int is_in(const struct Machine *m, int thread, uint8_t state, uint32_t value)
+{
+    return m->slots[thread].state == state && m->slots[thread].value == value;
+}
+
+/* The plan of 16 threads and 16 sections: thread i has priority i + 1 and needs section i. */
+static void largest_plan(void)
+{
+    uint8_t plan[50] = {16, 16};
+    struct Watch watch;
+    memset(&watch, 0xaa, sizeof watch);
+    for (int i = 0; i < 16; i++) {
+        plan[2 + i] = (uint8_t)(i + 1);
+        plan[18 + 2 * i + i / 8] = (uint8_t)(1 << i % 8);
+    }
+    EXPECT("largest plan", beltcairn_begin(plan, sizeof plan, &watch) == 0);
+    const struct Machine *m = &watch.state.machine;
+    EXPECT("largest plan", m->plan.threads == 16 && m->plan.sections == 16);
+    for (int i = 0; i < 16; i++) {
+        EXPECT("largest plan", m->plan.bases[i] == i + 1 && m->plan.needs[i] == 1 << i && is_in(m, i, DORMANT, 0));
+    }
+    EXPECT("largest plan", m->tick == 0 && m->queue.count == 0 && m->holds.count == 0 && m->waits.count == 0 && m->reported == NOBODY);
+    EXPECT("largest plan", watch.state.due.count == 0 && watch.state.given == 0 && watch.rule == 0);
+}
+
+static void step(struct Watch *watch, uint8_t kind, uint16_t operand, uint64_t due)
+{
+    uint64_t told = KEPT;
+    EXPECT("step", beltcairn_step(watch, kind, operand, &told) == 0);
+    EXPECT("step", told == due);
+}
+
+/* Run A up to its first Lost, and to its end: thread 2 waits for the section that thread 0 holds, and is handed it. */
+static void states_of_run_a(void)
+{
+    static const uint8_t plan[11] = {3, 1, 1, 2, 3, 1, 0, 0, 0, 1, 0};
+    struct Watch watch;
+    const struct Machine *m = &watch.state.machine;
+    memset(&watch, 0, sizeof watch);
+    EXPECT("run A", beltcairn_begin(plan, sizeof plan, &watch) == 0);
+    EXPECT("run A", m->plan.threads == 3 && m->plan.sections == 1 && memcmp(m->plan.bases, plan + 2, 3) == 0);
+    EXPECT("run A", m->plan.needs[0] == 1 && m->plan.needs[1] == 0 && m->plan.needs[2] == 1);
+    step(&watch, CREATE, 0, 2), step(&watch, READY, 0, 1), step(&watch, SWITCH, 0, 0);
+    step(&watch, TAKE, 0, 1), step(&watch, WON, 0, 0);
+    step(&watch, CREATE, 2, 2), step(&watch, READY, 2, 1), step(&watch, SWITCH, 2, 0);
+    step(&watch, TAKE, 0, 2), step(&watch, LOST, 2, 1);
+    EXPECT("run A", lists(&m->queue, 1, 0, 0, 0) && lists(&m->waits, 1, 2, 0, 0) && m->holds.count == 1 && holds(&m->holds, 0, 0, 0));
+    EXPECT("run A", is_in(m, 0, IS_READY, 0) && is_in(m, 1, DORMANT, 0) && is_in(m, 2, WAITING, 0));
+    EXPECT("run A", m->reported == 2 && m->tick == 0 && owes(&watch.state, 0, SWITCH, 0) && !owes(&watch.state, 1, 0, 0));
+    step(&watch, SWITCH, 0, 0), step(&watch, CREATE, 1, 1), step(&watch, READY, 1, 0), step(&watch, GIVE, 0, 3);
+    EXPECT("run A", owes(&watch.state, 0, WON, 2) && owes(&watch.state, 1, READY, 2) && owes(&watch.state, 2, SWITCH, 2) && m->reported == 0);
+    step(&watch, WON, 2, 2), step(&watch, READY, 2, 1), step(&watch, SWITCH, 2, 0);
+    EXPECT("run A", lists(&m->queue, 3, 0, 1, 2) && m->waits.count == 0 && m->holds.count == 1 && holds(&m->holds, 0, 0, 2));
+    EXPECT("run A", is_in(m, 0, IS_READY, 0) && is_in(m, 1, IS_READY, 0) && is_in(m, 2, IS_READY, 0) && m->reported == 2 && watch.rule == 0);
+}
+
+/* One thread holds sections 0 and then 1, gives them back in turn and sleeps: until tick number 0 + 300 + 1. Then a Ready that is not due. */
+static void states_of_one_thread(void)
+{
+    static const uint8_t plan[5] = {1, 2, 1, 3, 0};
+    struct Watch watch;
+    const struct Machine *m = &watch.state.machine;
+    uint64_t due = KEPT;
+    memset(&watch, 0, sizeof watch);
+    EXPECT("one thread", beltcairn_begin(plan, sizeof plan, &watch) == 0);
+    step(&watch, CREATE, 0, 2), step(&watch, READY, 0, 1), step(&watch, SWITCH, 0, 0);
+    step(&watch, TAKE, 0, 1), step(&watch, WON, 0, 0), step(&watch, TAKE, 1, 1), step(&watch, WON, 0, 0);
+    EXPECT("one thread", m->holds.count == 2 && holds(&m->holds, 0, 0, 0) && holds(&m->holds, 1, 1, 0));
+    step(&watch, GIVE, 1, 0), step(&watch, GIVE, 0, 0), step(&watch, DELAY, 300, 1);
+    EXPECT("one thread", m->holds.count == 0 && m->queue.count == 0 && is_in(m, 0, ASLEEP, 301) && owes(&watch.state, 0, SWITCH, NOBODY));
+    step(&watch, SWITCH, 65535, 0), step(&watch, TICK, 0, 0);
+    EXPECT("one thread", m->tick == 1 && m->reported == NOBODY && watch.rule == 0);
+    EXPECT("one thread", beltcairn_step(&watch, READY, 0, &due) == 28 && due == KEPT);
+    EXPECT("one thread", m->tick == 1 && watch.rule == 28);
+}
+
+/* A state made here: thread 0 runs and holds the section that thread 2 waits for, thread 1 sleeps until tick number 9, and it is 7. */
+static struct Watch made(void)
+{
+    struct Watch watch;
+    struct Machine *m = &watch.state.machine;
+    memset(&watch, 0, sizeof watch);
+    m->plan.threads = 3;
+    m->plan.sections = 1;
+    memcpy(m->plan.bases, (const uint8_t[]){1, 2, 3}, 3);
+    memcpy(m->plan.needs, (const uint16_t[]){1, 0, 1}, 6);
+    m->tick = 7;
+    m->slots[0].state = IS_READY;
+    m->slots[1].state = ASLEEP;
+    m->slots[1].value = 9;
+    m->slots[2].state = WAITING;
+    m->queue.count = 1;
+    m->holds.count = 1;
+    m->waits.items[0] = 2;
+    m->waits.count = 1;
+    return watch;
+}
+
+static void clean_lent_state(void)
+{
+    struct Watch watch = made();
+    const struct Machine *m = &watch.state.machine;
+    step(&watch, TICK, 0, 0);
+    EXPECT("lent", m->tick == 8 && is_in(m, 1, ASLEEP, 9) && lists(&m->queue, 1, 0, 0, 0));
+    step(&watch, TICK, 0, 1);
+    EXPECT("lent", m->tick == 9 && is_in(m, 1, IS_READY, 0) && lists(&m->queue, 2, 0, 1, 0) && owes(&watch.state, 0, READY, 1));
+    step(&watch, READY, 1, 0), step(&watch, GIVE, 0, 3);
+    EXPECT("lent", holds(&m->holds, 0, 0, 2) && m->waits.count == 0 && lists(&m->queue, 3, 0, 1, 2) && owes(&watch.state, 2, SWITCH, 2));
+}
+
+static void refused_step(struct Watch watch, uint8_t answer, uint8_t kind, uint16_t operand)
+{
+    struct Watch before = watch;
+    uint64_t due = KEPT;
+    EXPECT("refused step", beltcairn_step(&watch, kind, operand, &due) == answer);
+    EXPECT("refused step", due == KEPT && same(&watch, &before));
+}
+
+/* The parts of 12, each of a state that differs from `made` in that alone; 12 is asked before 7. */
+static void ill_formed_states(void)
+{
+    struct Watch watch;
+#define ILL(change) watch = made(), change, refused_step(watch, 12, TICK, 0), refused_step(watch, 12, 0, 0)
+    ILL(watch.state.machine.plan.threads = 0);
+    ILL(watch.state.machine.plan.threads = 17);
+    ILL(watch.state.machine.plan.sections = SIZE_MAX);
+    ILL(watch.state.machine.plan.bases[1] = 65);
+    ILL(watch.state.machine.plan.needs[2] = 2);
+    ILL(watch.state.machine.tick = 4000000001u);
+    ILL(watch.state.machine.slots[1].value = 4000065537u);
+    ILL(watch.state.machine.slots[1].state = 4);
+    ILL(watch.state.machine.slots[2].value = 1);
+    ILL(watch.state.machine.queue.items[0] = 3);
+    ILL(watch.state.machine.queue.count = 2); /* thread 0 twice */
+    ILL(watch.state.machine.queue.count = SIZE_MAX);
+    ILL(watch.state.machine.queue.count = 0); /* thread 0 is ready and not in the line */
+    ILL(watch.state.machine.waits.items[0] = 0);
+    ILL(watch.state.machine.holds.count = 2); /* section 0 twice */
+    ILL(watch.state.machine.holds.items[0].section = 1);
+    ILL(watch.state.machine.holds.items[0].thread = 3);
+    ILL(watch.state.machine.reported = 3);
+    ILL(watch.state.due.count = 1); /* a report of kind 0 */
+    ILL(watch.state.due.count = SIZE_MAX);
+    ILL(watch.rule = 20);
+    ILL(watch.rule = 31);
+    ILL(memset(&watch, 0, sizeof watch));
+    ILL(memset(&watch, 0xff, sizeof watch));
+#undef ILL
+}
+
+static void refused_steps(void)
+{
+    struct Watch watch = made();
+    uint64_t due = KEPT;
+    refused_step(watch, 7, 0, 0);
+    refused_step(watch, 7, 21, 0);
+    refused_step(watch, 8, CREATE, 3);
+    refused_step(watch, 8, SWITCH, 255);
+    watch.state.machine.tick = 4000000000u;
+    refused_step(watch, 8, TICK, 1);
+    refused_step(watch, 13, TICK, 0);
+    watch.rule = 25;
+    refused_step(watch, 13, TICK, 0);
+    EXPECT("stored", beltcairn_step(&watch, RELINQUISH, 0, &due) == 25 && due == KEPT && watch.rule == 25);
+    watch.rule = 0;
+    watch.state.machine.slots[1].value = 4000065536u;
+    step(&watch, RELINQUISH, 0, 0);
+    watch.state.machine.tick = 3999999999u;
+    step(&watch, TICK, 0, 0);
+    EXPECT("last tick", watch.state.machine.tick == 4000000000u);
+}
+
+void check_layout(void)
+{
+    sizes_and_offsets();
+    largest_plan();
+    states_of_run_a();
+    states_of_one_thread();
+    clean_lent_state();
+    ill_formed_states();
+    refused_steps();
+}

@@ -1,0 +1,191 @@
+//! The functions on the known runs, on what they refuse, and on any bytes.
+mod known;
+
+use beltcairn::{bench, check, Reply, Verdict, Watch, Written};
+use known::{bytes, known, run_a, Run, CREATE, PLAN_A, READY, RELINQUISH, SWITCH, TICK};
+
+/// The verdict of live steps, one for each record until one breaks a rule.
+fn step_by_step(plan: &[u8], records: &[(u8, u16)]) -> Verdict {
+    let mut watch = Watch::begin(plan).expect("a plan that passes");
+    let mut due = 0;
+    for (i, record) in records.iter().enumerate() {
+        match watch.step(record.0, record.1) {
+            Reply::Clean(n) => due = n,
+            Reply::Broken(rule) => return Verdict::Breach { record: i as u64, rule },
+            Reply::Refused(question) => return Verdict::Refused(question),
+        }
+    }
+    Verdict::Clean {
+        records: records.len() as u64,
+        due,
+    }
+}
+
+#[test]
+fn known_runs_whole_and_step_by_step() {
+    let runs = known();
+    assert_eq!(runs.len(), 14);
+    for run in &runs {
+        assert_eq!(check(&run.plan, &bytes(&run.records)), run.verdict, "{}", run.name);
+        assert_eq!(step_by_step(&run.plan, &run.records), run.verdict, "{}", run.name);
+    }
+}
+
+#[test]
+fn calls_of_a_clean_run_make_its_dump() {
+    let settled = |run: &&Run| matches!(run.verdict, Verdict::Clean { due: 0, .. });
+    for run in known().iter().filter(settled) {
+        let calls: Vec<(u8, u16)> = run.records.iter().copied().filter(|r| r.0 < READY).collect();
+        let dump = bytes(&run.records);
+        let mut out = vec![0xaa; dump.len() + 7];
+        assert_eq!(
+            bench(&run.plan, &bytes(&calls), &mut out),
+            Written::Wrote(run.records.len() as u64),
+            "{}",
+            run.name
+        );
+        assert_eq!(out[..dump.len()], dump[..], "{}", run.name);
+        assert_eq!(out[dump.len()..], [0xaa; 7], "{}", run.name);
+        let mut short = vec![0xaa; dump.len() - 1];
+        assert_eq!(bench(&run.plan, &bytes(&calls), &mut short), Written::Refused(11), "{}", run.name);
+        assert!(short.iter().all(|b| *b == 0xaa), "{}", run.name);
+    }
+}
+
+#[test]
+fn a_breach_is_stored_and_answered_from_then_on() {
+    for run in known() {
+        let Verdict::Breach { record, rule } = run.verdict else { continue };
+        let mut watch = Watch::begin(&run.plan).unwrap();
+        for (kind, operand) in &run.records[..record as usize] {
+            assert!(matches!(watch.step(*kind, *operand), Reply::Clean(_)), "{}", run.name);
+        }
+        let before = watch;
+        let (kind, operand) = run.records[record as usize];
+        assert_eq!(watch.step(kind, operand), Reply::Broken(rule), "{}", run.name);
+        assert_eq!(watch, Watch { rule, ..before }, "{}", run.name);
+        assert_eq!(watch.step(TICK, 0), Reply::Broken(rule), "{}", run.name);
+        assert_eq!(watch, Watch { rule, ..before }, "{}", run.name);
+    }
+}
+
+#[test]
+fn refused_plans() {
+    let plans: [(u8, &[u8]); 9] = [
+        (1, &[]),
+        (1, &[0, 0]),
+        (1, &[17, 0]),
+        (1, &[1, 17, 1, 0, 0]),
+        (2, &[1, 0, 1, 0]),
+        (2, &[1, 0, 1, 0, 0, 0]),
+        (3, &[1, 0, 0, 0, 0]),
+        (3, &[1, 0, 65, 0, 0]),
+        (4, &[1, 0, 1, 1, 0]),
+    ];
+    for (question, plan) in plans {
+        let mut out = [0xaa; 8];
+        assert_eq!(check(plan, &[0, 0]), Verdict::Refused(question), "{plan:?}");
+        assert_eq!(bench(plan, &[0, 0], &mut out), Written::Refused(question), "{plan:?}");
+        assert_eq!(Watch::begin(plan), Err(question), "{plan:?}");
+        assert_eq!(out, [0xaa; 8]);
+    }
+}
+
+#[test]
+fn refused_dumps_and_lists() {
+    let cases: [(u8, &[u8]); 7] = [
+        (5, &[]),
+        (5, &[0x21, 0x4e]),
+        (6, &[0x20, 0x4e]),
+        (6, &[0, 0, 0]),
+        (7, &[1, 0, 8, 0, 0]),
+        (8, &[1, 0, CREATE, 3, 0]),
+        (8, &[1, 0, TICK, 1, 0]),
+    ];
+    for (question, list) in cases {
+        let mut out = [0xaa; 60];
+        assert_eq!(check(&PLAN_A, list), Verdict::Refused(question), "{list:?}");
+        assert_eq!(bench(&PLAN_A, list, &mut out), Written::Refused(question), "{list:?}");
+        assert_eq!(out, [0xaa; 60]);
+    }
+    let mut out = [0xaa; 60];
+    assert_eq!(bench(&PLAN_A, &bytes(&[(READY, 0)]), &mut out), Written::Refused(7));
+    assert_eq!(bench(&PLAN_A, &bytes(&[(RELINQUISH, 0)]), &mut out), Written::Refused(9));
+    assert_eq!(out, [0xaa; 60]);
+}
+
+#[test]
+fn most_records() {
+    let mut calls = vec![(RELINQUISH, 0); 6668];
+    (calls[0], calls[1]) = ((CREATE, 0), (CREATE, 1));
+    let plan = [2, 0, 1, 1, 0, 0, 0, 0];
+    let mut out = vec![0xaa; 60002];
+    assert_eq!(bench(&plan, &bytes(&calls), &mut out), Written::Refused(10));
+    assert!(out.iter().all(|b| *b == 0xaa));
+    assert_eq!(bench(&plan, &bytes(&calls[..6667]), &mut out), Written::Wrote(20000));
+    assert_eq!(check(&plan, &out), Verdict::Clean { records: 20000, due: 0 });
+}
+
+/// Numbers in no order, the same in every run (xorshift).
+struct Numbers(u64);
+
+impl Numbers {
+    fn below(&mut self, n: usize) -> usize {
+        self.0 ^= self.0 << 13;
+        self.0 ^= self.0 >> 7;
+        self.0 ^= self.0 << 17;
+        (self.0 % n as u64) as usize
+    }
+
+    fn bytes(&mut self, most: usize) -> Vec<u8> {
+        let n = self.below(most + 1);
+        (0..n).map(|_| self.below(256) as u8).collect()
+    }
+}
+
+#[test]
+fn any_bytes_are_answered() {
+    let mut numbers = Numbers(1);
+    for _ in 0..20_000 {
+        let (plan, list, mut out) = (numbers.bytes(60), numbers.bytes(60), numbers.bytes(90));
+        let before = out.clone();
+        let verdict = check(&plan, &list);
+        assert!(matches!(
+            verdict,
+            Verdict::Refused(1..=8) | Verdict::Clean { .. } | Verdict::Breach { rule: 21..=30, .. }
+        ));
+        match bench(&plan, &list, &mut out) {
+            Written::Refused(question) => assert!((1..=11).contains(&question) && out == before),
+            Written::Wrote(n) => assert!(2 + 3 * n as usize <= out.len()),
+        }
+        assert!(!matches!(Watch::begin(&plan), Err(0 | 5..)));
+    }
+}
+
+/// Run A with up to three numbers changed: the whole check says what live steps say.
+#[test]
+fn changed_runs_are_judged_alike() {
+    let mut numbers = Numbers(2);
+    let (mut clean, mut broken) = (0, 0);
+    for _ in 0..20_000 {
+        let mut records = run_a();
+        for _ in 0..numbers.below(4) {
+            let i = numbers.below(records.len());
+            match numbers.below(3) {
+                0 => records[i].0 = [CREATE, 2, 3, 4, 5, 6, TICK, READY, SWITCH, 18, 19, 20][numbers.below(12)],
+                1 => records[i].1 = numbers.below(4) as u16,
+                _ => records.truncate(i + 1),
+            }
+        }
+        let whole = check(&PLAN_A, &bytes(&records));
+        match whole {
+            Verdict::Refused(question) => assert!(question == 8),
+            Verdict::Clean { .. } => clean += 1,
+            Verdict::Breach { .. } => broken += 1,
+        }
+        if !matches!(whole, Verdict::Refused(_)) {
+            assert_eq!(step_by_step(&PLAN_A, &records), whole);
+        }
+    }
+    assert!(clean > 1000 && broken > 1000);
+}
