@@ -1,0 +1,264 @@
+//! Lent states that are broken in exactly one of the ways that answer 12 lists.
+
+use second::{Fault, Parts, LAST_SLEEPER, LAST_TICK, NOBODY};
+
+use crate::answer::Answer;
+use crate::bytes::Numbers;
+use crate::difference::Compared;
+use crate::lent::{formed_parts, formed_under, reached_parts, some_record, some_report};
+use crate::random::Random;
+use crate::runs::plan_of;
+use crate::sides::{refused_12, Pair};
+use crate::state;
+
+/// Breaks the state in one way; says No, with the state as it was, where the state has nothing to break so.
+pub type Break = fn(&mut Parts, &mut Random) -> bool;
+
+pub const WAYS: [(&str, Break); 25] = [
+    ("plan fails 1: no thread", no_thread),
+    ("plan fails 1: too many threads", too_many_threads),
+    ("plan fails 1: too many sections", |p, r| {
+        set(&mut p.sections, r.pick(&[17, 18, 255, 256, usize::MAX]))
+    }),
+    ("plan fails 3", |p, r| put(&mut p.bases, r, |r| r.pick(&[0, 65, 128, 255]))),
+    ("plan fails 4", needs_from_s),
+    ("thread not below T in the line", |p, r| listed_beyond(&mut p.line, p.threads, r)),
+    ("thread not below T in the holds", holder_beyond),
+    ("thread not below T in the waits", |p, r| listed_beyond(&mut p.waits, p.threads, r)),
+    ("thread not below T reported", |p, r| set(&mut p.given, not_nobody(r, p.threads))),
+    ("thread not below T in a report", |p, r| {
+        due_with(p, r, |r, t| (r.between(16, 20) as u8, not_nobody(r, t)))
+    }),
+    ("nobody in a report that is no Switch", |p, r| {
+        due_with(p, r, |r, _| (r.pick(&[16, 18, 19, 20]), NOBODY))
+    }),
+    ("section not below S in the holds", section_beyond),
+    ("section not below S waited for", waited_beyond),
+    ("report not of the paper", |p, r| {
+        due_with(p, r, |r, t| (r.pick(&[0, 1, 7, 15, 21, 255]), r.below(t) as u16))
+    }),
+    ("stored rule not of the paper", |p, r| {
+        set(&mut p.stored, r.pick(&[1, 7, 12, 20, 31, 32, 255]))
+    }),
+    ("tick number too great", |p, r| {
+        set(&mut p.tick, LAST_TICK + r.pick(&[1, 2, 65536, 294_967_295]))
+    }),
+    ("sleeper's tick number too great", sleeper_beyond),
+    ("section held twice", held_twice),
+    ("thread twice in the line", |p, r| listed_twice(&mut p.line, r)),
+    ("thread twice in the waits", |p, r| listed_twice(&mut p.waits, r)),
+    ("thread in no condition: number", no_such_condition),
+    ("thread in no condition: ready, not in the line", |p, r| remove(&mut p.line, r)),
+    ("thread in no condition: waiting, not in the waits", |p, r| remove(&mut p.waits, r)),
+    ("thread in two conditions", in_two),
+    ("more than T + 1 due", too_many_due),
+];
+
+/// A state with one break, and one step on it: both answer 12 and change nothing.
+pub fn broken(fault: Fault, break_it: Break, random: &mut Random) -> Compared<Vec<Answer>> {
+    let parts = loop {
+        let mut parts = whole_parts(random);
+        if break_it(&mut parts, random) {
+            break parts;
+        }
+    };
+    let record = record_for(&parts, random);
+    let reply = Pair::lent(fault, &parts, random).step_refused(record)?;
+    Ok(vec![reply.into()])
+}
+
+/// A state whose struct names a length beyond its own arrays.
+pub fn beyond_the_arrays(break_it: state::Lengthen, random: &mut Random) -> Compared<Vec<Answer>> {
+    let parts = whole_parts(random);
+    let record = record_for(&parts, random);
+    let mut watch = state::lend(&parts, random);
+    let excess = random.pick(&[1, 2, 239, 240, 256, 1 << 32, usize::MAX - 300]);
+    break_it(&mut watch, excess);
+    Ok(vec![refused_12(watch, record)?.into()])
+}
+
+/// A state that question 12 lets pass.
+fn whole_parts(random: &mut Random) -> Parts {
+    loop {
+        let parts = if random.one_in(3) {
+            reached_parts(random)
+        } else {
+            formed_parts(random)
+        };
+        if parts.machine(Fault::None).is_some() {
+            return parts;
+        }
+    }
+}
+
+/// 12 is asked first, so bad kinds and operands are among them.
+fn record_for(parts: &Parts, random: &mut Random) -> Numbers {
+    let mut sized = parts.clone();
+    sized.sections = sized.sections.min(16);
+    some_record(&sized, random)
+}
+
+fn set<T>(place: &mut T, value: T) -> bool {
+    *place = value;
+    true
+}
+
+fn put<T>(list: &mut [T], random: &mut Random, value: fn(&mut Random) -> T) -> bool {
+    let place = random.below(list.len());
+    list[place] = value(random);
+    true
+}
+
+/// Adds an entry somewhere, if the library's array has room for it.
+fn add<T>(list: &mut Vec<T>, entry: T, random: &mut Random) -> bool {
+    if list.len() >= 16 {
+        return false;
+    }
+    list.insert(random.below(list.len() + 1), entry);
+    true
+}
+
+fn listed_beyond(list: &mut Vec<u16>, threads: usize, random: &mut Random) -> bool {
+    let thread = beyond(random, threads);
+    add(list, thread, random)
+}
+
+fn listed_twice(list: &mut Vec<u16>, random: &mut Random) -> bool {
+    if list.is_empty() {
+        return false;
+    }
+    let thread = random.pick(list);
+    add(list, thread, random)
+}
+
+fn held_twice(parts: &mut Parts, random: &mut Random) -> bool {
+    if parts.holds.is_empty() {
+        return false;
+    }
+    let hold = (random.pick(&parts.holds).0, random.below(parts.threads) as u16);
+    add(&mut parts.holds, hold, random)
+}
+
+/// A number from the bound on that fits the library's byte.
+fn beyond(random: &mut Random, bound: usize) -> u16 {
+    let any = random.between(bound, 255);
+    random.pick(&[bound, any, 255]) as u16
+}
+
+/// The same, but not the one that the library takes for nobody.
+fn not_nobody(random: &mut Random, bound: usize) -> u16 {
+    let any = random.between(bound, 254);
+    random.pick(&[bound, any, 254]) as u16
+}
+
+/// With nobody in any list, so that nothing else is out of range.
+fn no_thread(parts: &mut Parts, _: &mut Random) -> bool {
+    let (sections, tick, stored) = (parts.sections, parts.tick, parts.stored);
+    *parts = Parts {
+        sections,
+        tick,
+        stored,
+        given: NOBODY,
+        ..Parts::default()
+    };
+    true
+}
+
+/// A state of 16 threads, all of which stay as they are.
+fn too_many_threads(parts: &mut Parts, random: &mut Random) -> bool {
+    let plan = plan_of(random, 16, parts.sections);
+    *parts = formed_under(&plan, random);
+    set(&mut parts.threads, random.pick(&[17, 18, 255, 256, usize::MAX]))
+}
+
+/// A dormant or sleeping thread, which stands in no list.
+fn no_such_condition(parts: &mut Parts, random: &mut Random) -> bool {
+    let number = random.pick(&[4, 5, 128, 255]);
+    let unlisted = parts.conditions.iter_mut().find(|condition| matches!(condition.0, 0 | 2));
+    unlisted.is_some_and(|condition| set(condition, (number, 0)))
+}
+
+fn needs_from_s(parts: &mut Parts, random: &mut Random) -> bool {
+    if parts.sections >= 16 {
+        return false;
+    }
+    let bit = random.between(parts.sections, 15);
+    let thread = random.below(parts.threads);
+    parts.needs[thread] |= 1 << bit;
+    true
+}
+
+fn holder_beyond(parts: &mut Parts, random: &mut Random) -> bool {
+    let free: Vec<u16> = (0..parts.sections as u16)
+        .filter(|s| parts.holds.iter().all(|(held, _)| held != s))
+        .collect();
+    if free.is_empty() {
+        return false;
+    }
+    let hold = (random.pick(&free), beyond(random, parts.threads));
+    add(&mut parts.holds, hold, random)
+}
+
+fn section_beyond(parts: &mut Parts, random: &mut Random) -> bool {
+    let hold = (beyond(random, parts.sections), random.below(parts.threads) as u16);
+    add(&mut parts.holds, hold, random)
+}
+
+fn waited_beyond(parts: &mut Parts, random: &mut Random) -> bool {
+    let Some(thread) = parts.waits.first().copied() else {
+        return false;
+    };
+    let any = random.between(parts.sections, 1 << 20);
+    parts.conditions[usize::from(thread)].1 = random.pick(&[parts.sections, any, parts.sections + 256]) as u64;
+    true
+}
+
+fn sleeper_beyond(parts: &mut Parts, random: &mut Random) -> bool {
+    let Some(sleeper) = parts.conditions.iter_mut().find(|condition| condition.0 == 2) else {
+        return false;
+    };
+    sleeper.1 = LAST_SLEEPER + random.pick(&[1, 2, 65536, 294_901_759]);
+    true
+}
+
+fn due_with(parts: &mut Parts, random: &mut Random, report: fn(&mut Random, usize) -> (u8, u16)) -> bool {
+    let report = report(random, parts.threads);
+    if parts.due.is_empty() {
+        parts.due.push(report);
+    } else {
+        let place = random.below(parts.due.len());
+        parts.due[place] = report;
+    }
+    true
+}
+
+fn remove(list: &mut Vec<u16>, random: &mut Random) -> bool {
+    if list.is_empty() {
+        return false;
+    }
+    list.remove(random.below(list.len()));
+    true
+}
+
+/// A thread that is in one condition by its number, and in another by a list.
+fn in_two(parts: &mut Parts, random: &mut Random) -> bool {
+    let thread = random.below(parts.threads);
+    let (state, entry) = (parts.conditions[thread].0, thread as u16);
+    if state != 1 && random.one_in(2) {
+        add(&mut parts.line, entry, random)
+    } else if state != 3 {
+        add(&mut parts.waits, entry, random)
+    } else {
+        false
+    }
+}
+
+/// The library's array holds 17, which is T + 1 for 16 threads; more than that is among the lengths beyond the arrays.
+fn too_many_due(parts: &mut Parts, random: &mut Random) -> bool {
+    if parts.threads >= 16 {
+        return false;
+    }
+    let number = random.between(parts.threads + 2, 17);
+    parts.due = (0..number).map(|_| some_report(parts.threads, random)).collect();
+    true
+}

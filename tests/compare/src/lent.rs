@@ -1,0 +1,159 @@
+//! Lent states: those that a run reaches, and well-formed ones that none does.
+
+use second::{Fault, Parts, Plan, Watch, LAST_SLEEPER, LAST_TICK, NOBODY};
+
+use crate::answer::Answer;
+use crate::bytes::Numbers;
+use crate::difference::Compared;
+use crate::random::Random;
+use crate::runs::{plan, run, Run};
+use crate::sides::Pair;
+
+/// A few steps on a state that a run reaches.
+pub fn reached(fault: Fault, random: &mut Random) -> Compared<Vec<Answer>> {
+    let parts = reached_parts(random);
+    some_steps(fault, &parts, random)
+}
+
+/// A few steps on a well-formed state, reached or not.
+pub fn well_formed(fault: Fault, random: &mut Random) -> Compared<Vec<Answer>> {
+    let parts = formed_parts(random);
+    some_steps(fault, &parts, random)
+}
+
+fn some_steps(fault: Fault, parts: &Parts, random: &mut Random) -> Compared<Vec<Answer>> {
+    let mut pair = Pair::lent(fault, parts, random);
+    let mut answers = Vec::new();
+    for _ in 0..random.between(1, 6) {
+        let record = some_record(pair.parts(), random);
+        answers.push(pair.step(record)?.into());
+    }
+    Ok(answers)
+}
+
+/// The state after the first records of an honest run.
+pub fn reached_parts(random: &mut Random) -> Parts {
+    let Run { plan, records } = run(random);
+    let length = random.below(records.len().min(200) + 1);
+    let mut watch = Watch::new(&plan).expect("the plan was made to pass");
+    for (kind, operand) in &records[..length] {
+        watch.step(*kind, *operand);
+    }
+    watch.parts().clone()
+}
+
+/// A state that question 12 lets pass: any conditions, with line and waits in any order, any holds, any reports due.
+pub fn formed_parts(random: &mut Random) -> Parts {
+    let plan = plan(random);
+    formed_under(&plan, random)
+}
+
+pub fn formed_under(plan: &[u8], random: &mut Random) -> Parts {
+    let plan = Plan::read(plan, Fault::None).expect("the plan was made to pass");
+    let (threads, sections) = (plan.threads(), plan.sections());
+    let tick = some_tick(random);
+    let conditions: Vec<(u8, u64)> = (0..threads).map(|_| some_condition(sections, tick, random)).collect();
+    let stored = if random.one_in(8) { random.between(21, 30) as u8 } else { 0 };
+    Parts {
+        threads,
+        sections,
+        bases: plan.bases().to_vec(),
+        needs: plan.needs_bits().to_vec(),
+        tick,
+        line: shuffled(&conditions, 1, random),
+        waits: shuffled(&conditions, 3, random),
+        conditions,
+        holds: some_holds(threads, sections, random),
+        given: some_thread_or_nobody(threads, random),
+        due: some_due(threads, random),
+        stored,
+    }
+}
+
+fn some_tick(random: &mut Random) -> u64 {
+    match random.below(4) {
+        0 => LAST_TICK - random.below(3) as u64,
+        1 => random.number() % (LAST_TICK + 1),
+        _ => random.below(10) as u64,
+    }
+}
+
+/// Ready more often than the rest, so that somebody runs.
+fn some_condition(sections: usize, tick: u64, random: &mut Random) -> (u8, u64) {
+    match random.below(6) {
+        0 => (0, 0),
+        1 => (2, some_wake(tick, random)),
+        2 | 3 if sections > 0 => (3, random.below(sections) as u64),
+        _ => (1, 0),
+    }
+}
+
+fn some_wake(tick: u64, random: &mut Random) -> u64 {
+    match random.below(8) {
+        0 => LAST_SLEEPER,
+        1 => random.number() % (LAST_SLEEPER + 1),
+        2 => tick.saturating_sub(random.below(3) as u64),
+        _ => tick + random.between(1, 2) as u64,
+    }
+}
+
+fn shuffled(conditions: &[(u8, u64)], number: u8, random: &mut Random) -> Vec<u16> {
+    let mut threads: Vec<u16> = (0..conditions.len() as u16)
+        .filter(|t| conditions[usize::from(*t)].0 == number)
+        .collect();
+    random.shuffle(&mut threads);
+    threads
+}
+
+fn some_holds(threads: usize, sections: usize, random: &mut Random) -> Vec<(u16, u16)> {
+    let mut held: Vec<u16> = (0..sections as u16).collect();
+    random.shuffle(&mut held);
+    held.truncate(random.below(sections + 1));
+    held.into_iter().map(|section| (section, random.below(threads) as u16)).collect()
+}
+
+fn some_thread_or_nobody(threads: usize, random: &mut Random) -> u16 {
+    if random.one_in(4) {
+        NOBODY
+    } else {
+        random.below(threads) as u16
+    }
+}
+
+fn some_due(threads: usize, random: &mut Random) -> Vec<(u8, u16)> {
+    let number = if random.one_in(3) { random.between(1, threads + 1) } else { 0 };
+    (0..number).map(|_| some_report(threads, random)).collect()
+}
+
+pub fn some_report(threads: usize, random: &mut Random) -> (u8, u16) {
+    match random.between(16, 20) as u8 {
+        17 => (17, some_thread_or_nobody(threads, random)),
+        kind => (kind, random.below(threads) as u16),
+    }
+}
+
+/// A record for a step: often the report that is due, or a call with a fitting operand; now and then any numbers at all.
+pub fn some_record(parts: &Parts, random: &mut Random) -> Numbers {
+    let threads = parts.threads.clamp(1, 16);
+    match (random.below(12), parts.due.first()) {
+        (0, _) => (random.byte(), random.word()),
+        (1, _) => (
+            random.between(0, 21) as u8,
+            random.pick(&[0, 1, threads as u16, parts.sections as u16, 256, NOBODY]),
+        ),
+        (2..=3, _) => some_report(threads, random),
+        (4..=8, Some(report)) => *report,
+        (9, Some((kind, _))) => (*kind, random.below(threads) as u16),
+        _ => some_call(parts, threads, random),
+    }
+}
+
+fn some_call(parts: &Parts, threads: usize, random: &mut Random) -> Numbers {
+    match random.pick(&[1, 2, 3, 4, 5, 5, 6, 6, 6, 7]) {
+        1 => (1, random.below(threads) as u16),
+        2 => (2, random.pick(&[1, 1, 2, 256, 65535])),
+        6 if !parts.holds.is_empty() => (6, random.pick(&parts.holds).0),
+        kind @ (5 | 6) => (kind, random.below(parts.sections.max(1)) as u16),
+        kind => (kind, 0),
+    }
+}

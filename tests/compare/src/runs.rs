@@ -1,0 +1,153 @@
+//! Random plans, and random runs that a kernel keeping the rules could have made.
+
+use second::{broken_rule, Call, Fault, Machine, Plan, Record, MOST_RECORDS};
+
+use crate::bytes::{self, Numbers};
+use crate::random::Random;
+
+/// A plan's bytes and the records of a clean dump.
+pub struct Run {
+    pub plan: Vec<u8>,
+    pub records: Vec<Numbers>,
+}
+
+/// The bytes of a plan that passes questions 1 to 4: few priorities, so that ties happen, and needs dense or sparse.
+pub fn plan(random: &mut Random) -> Vec<u8> {
+    let most_threads = random.pick(&[3, 5, 16]);
+    let most_sections = random.pick(&[2, 4, 16]);
+    sized_plan(random, most_threads, most_sections)
+}
+
+pub fn sized_plan(random: &mut Random, most_threads: usize, most_sections: usize) -> Vec<u8> {
+    let threads = random.between(1, most_threads);
+    let sections = random.between(0, most_sections);
+    plan_of(random, threads, sections)
+}
+
+/// The same of exactly so many threads and sections.
+pub fn plan_of(random: &mut Random, threads: usize, sections: usize) -> Vec<u8> {
+    let lowest = random.pick(&[1, 1, 1, 30, 60]);
+    let spread = random.between(1, 5);
+    let bases: Vec<u8> = (0..threads).map(|_| (lowest + random.below(spread)) as u8).collect();
+    let density = random.below(3);
+    let needs: Vec<u16> = (0..threads).map(|_| needs(random, sections, density)).collect();
+    bytes::plan(sections as u8, &bases, &needs)
+}
+
+fn needs(random: &mut Random, sections: usize, density: usize) -> u16 {
+    let allowed = ((1u32 << sections) - 1) as u16;
+    let bits = match density {
+        0 => random.word() & random.word(),
+        1 => random.word() | random.word(),
+        _ => u16::MAX,
+    };
+    bits & allowed
+}
+
+/// How often each kind of call is tried, kinds 1 to 7 in order.
+pub struct Mood([usize; 7]);
+
+impl Mood {
+    /// Many threads that take sections and seldom end, so that they meet.
+    pub fn busy(random: &mut Random) -> Mood {
+        Mood([6, 1, 2, random.below(2), 8, 3, 2])
+    }
+
+    /// Busy with sections in half of the runs, and with anything in the others.
+    pub fn any(random: &mut Random) -> Mood {
+        if random.one_in(2) {
+            return Mood::busy(random);
+        }
+        let mut weights = [0; 7];
+        for weight in &mut weights {
+            *weight = random.below(7);
+        }
+        // Without these nothing begins, or nothing is ever admitted.
+        weights[0] += 2;
+        weights[6] += 1;
+        Mood(weights)
+    }
+
+    fn kind(&self, random: &mut Random) -> u8 {
+        let mut left = random.below(self.0.iter().sum());
+        for (kind, weight) in (1..).zip(self.0) {
+            if left < weight {
+                return kind;
+            }
+            left -= weight;
+        }
+        unreachable!("the number is below the sum of the weights")
+    }
+}
+
+/// A run of some length: mostly short, some of hundreds of records, and now and then as long as a dump may be.
+pub fn run(random: &mut Random) -> Run {
+    let length = match random.below(4000) {
+        0 => MOST_RECORDS,
+        1..=200 => random.between(100, 600),
+        201..=1500 => random.between(40, 120),
+        _ => random.below(50),
+    };
+    let (plan, mood) = (plan(random), Mood::any(random));
+    sized_run(random, plan, &mood, length)
+}
+
+/// A run that ends with the reports of the call that brings it to that length; a dump of the greatest length ends there.
+pub fn sized_run(random: &mut Random, plan: Vec<u8>, mood: &Mood, length: usize) -> Run {
+    let known = Plan::read(&plan, Fault::None).expect("the plan was made to pass");
+    let mut machine = Machine::new(known, Fault::None);
+    let mut records = Vec::new();
+    while records.len() < length {
+        let call = admitted_call(&machine, mood, random);
+        advance(&mut machine, Record::Call(call), &mut records);
+        while let Some(report) = machine.due.front().copied() {
+            advance(&mut machine, Record::Report(report), &mut records);
+        }
+    }
+    records.truncate(MOST_RECORDS);
+    Run { plan, records }
+}
+
+fn advance(machine: &mut Machine, record: Record, records: &mut Vec<Numbers>) {
+    machine.advance(record);
+    records.push(record.numbers());
+}
+
+fn admitted_call(machine: &Machine, mood: &Mood, random: &mut Random) -> Call {
+    loop {
+        let call = candidate(machine, mood.kind(random), random);
+        if let Some(call) = call.filter(|call| broken_rule(machine, Record::Call(*call)).is_none()) {
+            return call;
+        }
+    }
+}
+
+/// A call of the kind, with an operand that stands a chance; nothing where none does.
+fn candidate(machine: &Machine, kind: u8, random: &mut Random) -> Option<Call> {
+    match kind {
+        1 => Some(Call::Create(random.below(machine.plan.threads()))),
+        2 => Some(Call::Delay(ticks(random))),
+        3 => Some(Call::Relinquish),
+        4 => Some(Call::End),
+        5 => needed(machine, random).map(Call::Take),
+        6 => machine.chosen().and_then(|caller| machine.taken_last(caller)).map(Call::Give),
+        _ => Some(Call::Tick),
+    }
+}
+
+/// A section that the running thread needs.
+fn needed(machine: &Machine, random: &mut Random) -> Option<usize> {
+    let caller = machine.chosen()?;
+    let sections: Vec<usize> = (0..machine.plan.sections())
+        .filter(|section| machine.plan.needs(caller, *section))
+        .collect();
+    (!sections.is_empty()).then(|| random.pick(&sections))
+}
+
+fn ticks(random: &mut Random) -> u16 {
+    match random.below(40) {
+        0 => random.pick(&[255, 256, 257, 511, 512, 65534, 65535]),
+        1..=4 => random.between(5, 20) as u16,
+        _ => random.between(1, 3) as u16,
+    }
+}

@@ -1,0 +1,147 @@
+//! A watch state as plain numbers, as a caller may lend it, and question 12.
+
+use crate::fault::Fault;
+use crate::machine::{Condition, Hold, Machine};
+use crate::plan::Plan;
+use crate::records::{Report, NOBODY};
+
+/// The greatest tick number of a lent state.
+pub const LAST_TICK: u64 = 4_000_000_000;
+/// The greatest tick number that a sleeper of a lent state may wait for.
+pub const LAST_SLEEPER: u64 = 4_000_065_536;
+
+/// A watch state in numbers. Nothing about them is promised until question 12 is asked.
+#[derive(Clone, Debug, Default, PartialEq, Eq)]
+pub struct Parts {
+    /// T, S and the plan's two arrays.
+    pub threads: usize,
+    pub sections: usize,
+    pub bases: Vec<u8>,
+    pub needs: Vec<u16>,
+    pub tick: u64,
+    /// Per thread 0 dormant, 1 ready, 2 asleep until the value, 3 waiting for the section
+    /// of that value. The value of a dormant or ready thread means nothing.
+    pub conditions: Vec<(u8, u64)>,
+    pub line: Vec<u16>,
+    /// Section and thread, oldest first.
+    pub holds: Vec<(u16, u16)>,
+    pub waits: Vec<u16>,
+    /// The thread last given by a Switch, or `NOBODY`.
+    pub given: u16,
+    /// Kind number and thread, or `NOBODY` for a Switch.
+    pub due: Vec<(u8, u16)>,
+    /// The stored rule, 0 for none.
+    pub stored: u8,
+}
+
+impl Parts {
+    /// The state in numbers that a machine is in.
+    pub fn of(machine: &Machine, stored: u8) -> Parts {
+        let numbers = |threads: &[usize]| threads.iter().map(|t| *t as u16).collect();
+        let line: Vec<usize> = machine.line.iter().copied().collect();
+        let holds = machine.holds.iter().map(|hold| (hold.section as u16, hold.thread as u16));
+        Parts {
+            threads: machine.plan.threads(),
+            sections: machine.plan.sections(),
+            bases: machine.plan.bases().to_vec(),
+            needs: machine.plan.needs_bits().to_vec(),
+            tick: machine.tick,
+            conditions: machine.conditions.iter().map(|c| condition_numbers(*c)).collect(),
+            line: numbers(&line),
+            holds: holds.collect(),
+            waits: numbers(&machine.waits),
+            given: machine.given.map_or(NOBODY, |thread| thread as u16),
+            due: machine.due.iter().map(|report| report.numbers()).collect(),
+            stored,
+        }
+    }
+
+    /// The machine in this state, or nothing where question 12 is answered No.
+    pub fn machine(&self, fault: Fault) -> Option<Machine> {
+        let plan = self.plan()?;
+        if !self.numbers_in_range() || !self.lists_agree() {
+            return None;
+        }
+        let (threads, sections) = (plan.threads(), plan.sections());
+        let conditions: Option<_> = self.conditions.iter().map(|c| condition(*c, sections)).collect();
+        let holds: Option<_> = self.holds.iter().map(|h| hold(*h, sections, threads)).collect();
+        let due: Option<_> = self.due.iter().map(|r| Report::from_numbers(r.0, r.1, &plan)).collect();
+        let given = match self.given {
+            NOBODY => None,
+            thread => Some(below(thread, threads)?),
+        };
+        Some(Machine {
+            fault,
+            tick: self.tick,
+            conditions: conditions?,
+            line: all_below(&self.line, threads)?.into(),
+            holds: holds?,
+            waits: all_below(&self.waits, threads)?,
+            given,
+            due: due?,
+            plan,
+        })
+    }
+
+    /// The plan, if it passes questions 1 to 4.
+    fn plan(&self) -> Option<Plan> {
+        Plan::from_numbers(self.threads, self.sections, self.bases.clone(), self.needs.clone()).ok()
+    }
+
+    // Thread and section numbers and report kinds are asked where they are turned into the
+    // machine's own; this is what is left.
+    fn numbers_in_range(&self) -> bool {
+        let rule = self.stored == 0 || (21..=30).contains(&self.stored);
+        rule && self.tick <= LAST_TICK && self.due.len() <= self.threads + 1
+    }
+
+    /// No section is held twice, no thread is listed twice, and each thread is in exactly
+    /// one condition, which the line and the waits bear out.
+    fn lists_agree(&self) -> bool {
+        let held: Vec<u16> = self.holds.iter().map(|(section, _)| *section).collect();
+        let each_in_one = self.conditions.iter().enumerate().all(|(thread, (number, _))| {
+            let thread = thread as u16;
+            self.line.contains(&thread) == (*number == 1) && self.waits.contains(&thread) == (*number == 3)
+        });
+        each_in_one && self.conditions.len() == self.threads && no_repeats(&held) && no_repeats(&self.line) && no_repeats(&self.waits)
+    }
+}
+
+fn condition(numbers: (u8, u64), sections: usize) -> Option<Condition> {
+    match numbers {
+        (0, _) => Some(Condition::Dormant),
+        (1, _) => Some(Condition::Ready),
+        (2, until) => (until <= LAST_SLEEPER).then_some(Condition::Asleep(until)),
+        (3, section) => (section < sections as u64).then_some(Condition::Waiting(section as usize)),
+        _ => None,
+    }
+}
+
+fn condition_numbers(condition: Condition) -> (u8, u64) {
+    match condition {
+        Condition::Dormant => (0, 0),
+        Condition::Ready => (1, 0),
+        Condition::Asleep(until) => (2, until),
+        Condition::Waiting(section) => (3, section as u64),
+    }
+}
+
+fn hold((section, thread): (u16, u16), sections: usize, threads: usize) -> Option<Hold> {
+    Some(Hold {
+        section: below(section, sections)?,
+        thread: below(thread, threads)?,
+    })
+}
+
+fn below(number: u16, bound: usize) -> Option<usize> {
+    let number = number as usize;
+    (number < bound).then_some(number)
+}
+
+fn all_below(list: &[u16], bound: usize) -> Option<Vec<usize>> {
+    list.iter().map(|number| below(*number, bound)).collect()
+}
+
+fn no_repeats(list: &[u16]) -> bool {
+    list.iter().enumerate().all(|(i, entry)| !list[..i].contains(entry))
+}

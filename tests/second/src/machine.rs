@@ -1,0 +1,309 @@
+//! The machine: what it remembers and what each call does.
+//!
+//! It asks no rules; a call comes here only after they are asked (see `rules`).
+
+use std::collections::VecDeque;
+
+use crate::fault::Fault;
+use crate::plan::Plan;
+use crate::records::{Call, Record, Report, ReportKind};
+
+#[derive(Clone, Copy, Debug, PartialEq, Eq)]
+pub enum Condition {
+    Dormant,
+    Ready,
+    /// Until this tick number.
+    Asleep(u64),
+    /// For this section.
+    Waiting(usize),
+}
+
+#[derive(Clone, Copy, Debug, PartialEq, Eq)]
+pub struct Hold {
+    pub section: usize,
+    pub thread: usize,
+}
+
+#[derive(Clone, Debug, PartialEq, Eq)]
+pub struct Machine {
+    pub plan: Plan,
+    pub fault: Fault,
+    pub tick: u64,
+    pub conditions: Vec<Condition>,
+    /// The ready threads in order of arrival.
+    pub line: VecDeque<usize>,
+    /// In order of taking.
+    pub holds: Vec<Hold>,
+    /// In order of their Take.
+    pub waits: Vec<usize>,
+    /// The thread of the latest Switch that was given; a Switch still due is in `due`.
+    pub given: Option<usize>,
+    pub due: VecDeque<Report>,
+}
+
+impl Machine {
+    /// The start: all dormant, tick number 0, nobody reported, nothing due.
+    pub fn new(plan: Plan, fault: Fault) -> Machine {
+        Machine {
+            fault,
+            tick: 0,
+            conditions: vec![Condition::Dormant; plan.threads()],
+            line: VecDeque::new(),
+            holds: Vec::new(),
+            waits: Vec::new(),
+            given: None,
+            due: VecDeque::new(),
+            plan,
+        }
+    }
+
+    pub fn ceiling(&self, section: usize) -> u8 {
+        if self.fault == Fault::CeilingOverAll {
+            return self.plan.bases().iter().copied().max().unwrap_or(0);
+        }
+        self.plan.ceiling(section)
+    }
+
+    /// The thread holding the section of greatest ceiling, on a tie the one taken later.
+    pub fn owner(&self) -> Option<usize> {
+        let mut best: Option<(u8, usize)> = None;
+        for hold in &self.holds {
+            let ceiling = self.ceiling(hold.section);
+            let replaces = match best {
+                None => true,
+                Some((greatest, _)) if self.fault == Fault::OwnerTie => ceiling > greatest,
+                Some((greatest, _)) => ceiling >= greatest,
+            };
+            if replaces {
+                best = Some((ceiling, hold.thread));
+            }
+        }
+        best.map(|(_, thread)| thread)
+    }
+
+    /// The greater of the base and, for the owner, the greatest base among the waits.
+    pub fn current(&self, thread: usize) -> u8 {
+        self.current_under(self.owner(), thread)
+    }
+
+    // The owner is the same for the whole line, so it is looked for once.
+    fn current_under(&self, owner: Option<usize>, thread: usize) -> u8 {
+        let base = self.plan.base(thread);
+        if owner != Some(thread) {
+            return base;
+        }
+        self.waits.iter().map(|waiter| self.plan.base(*waiter)).fold(base, u8::max)
+    }
+
+    /// The first in the line among those of greatest current priority.
+    pub fn chosen(&self) -> Option<usize> {
+        let owner = self.owner();
+        // Of equal maxima `max_by_key` gives the last it meets, which from behind is the first in the line.
+        self.line
+            .iter()
+            .rev()
+            .copied()
+            .max_by_key(|thread| self.current_under(owner, *thread))
+    }
+
+    /// The thread last reported as running; a Switch that is due counts as reported.
+    pub fn last_reported(&self) -> Option<usize> {
+        let switch = self.due.iter().rev().find(|report| report.kind == ReportKind::Switch);
+        match switch {
+            Some(report) => report.thread,
+            None => self.given,
+        }
+    }
+
+    pub fn holds_any(&self, thread: usize) -> bool {
+        self.holds.iter().any(|hold| hold.thread == thread)
+    }
+
+    pub fn holds_section(&self, thread: usize, section: usize) -> bool {
+        self.holds.contains(&Hold { section, thread })
+    }
+
+    /// The section that the thread took last of those it still holds.
+    pub fn taken_last(&self, thread: usize) -> Option<usize> {
+        self.holds.iter().rev().find(|hold| hold.thread == thread).map(|hold| hold.section)
+    }
+
+    /// Advances by a record that breaks no rule.
+    pub fn advance(&mut self, record: Record) {
+        match record {
+            Record::Call(call) => self.call(call),
+            Record::Report(_) => self.report_given(),
+        }
+    }
+
+    fn report_given(&mut self) {
+        if let Some(report) = self.due.pop_front() {
+            if report.kind == ReportKind::Switch {
+                self.given = report.thread;
+            }
+        }
+    }
+
+    fn call(&mut self, call: Call) {
+        match (call, self.chosen()) {
+            (Call::Create(thread), _) => self.create(thread),
+            (Call::Tick, _) => self.clock_tick(),
+            (Call::Delay(ticks), Some(caller)) => self.delay(caller, ticks),
+            (Call::Relinquish, Some(caller)) => self.relinquish(caller),
+            (Call::End, Some(caller)) => self.leave_line(caller, Condition::Dormant),
+            (Call::Take(section), Some(caller)) => self.take(caller, section),
+            (Call::Give(section), Some(caller)) => self.give(caller, section),
+            // Reached only where rule 22 is left out by mistake.
+            (_, None) => {}
+        }
+        self.owe_switch();
+    }
+
+    fn owe(&mut self, kind: ReportKind, thread: usize) {
+        self.due.push_back(Report {
+            kind,
+            thread: Some(thread),
+        });
+    }
+
+    fn owe_switch(&mut self) {
+        let chosen = self.chosen();
+        if chosen != self.last_reported() {
+            self.due.push_back(Report {
+                kind: ReportKind::Switch,
+                thread: chosen,
+            });
+        }
+    }
+
+    fn join_line(&mut self, thread: usize, at_front: bool) {
+        self.conditions[thread] = Condition::Ready;
+        if at_front {
+            self.line.push_front(thread);
+        } else {
+            self.line.push_back(thread);
+        }
+    }
+
+    fn leave_line(&mut self, thread: usize, condition: Condition) {
+        self.conditions[thread] = condition;
+        self.line.retain(|other| *other != thread);
+    }
+
+    fn create(&mut self, thread: usize) {
+        self.join_line(thread, false);
+        self.owe(ReportKind::Ready, thread);
+    }
+
+    fn clock_tick(&mut self) {
+        self.tick += 1;
+        let mut woken: Vec<usize> = (0..self.plan.threads())
+            .filter(|thread| self.conditions[*thread] == Condition::Asleep(self.tick))
+            .collect();
+        if self.fault == Fault::SleepersOrder {
+            woken.reverse();
+        }
+        for thread in woken {
+            self.join_line(thread, self.fault == Fault::WokenAtFront);
+            self.owe(ReportKind::Ready, thread);
+        }
+    }
+
+    fn delay(&mut self, caller: usize, ticks: u16) {
+        let mut until = self.tick + u64::from(ticks) + 1;
+        if self.fault == Fault::WakeAtNumberPlusN {
+            until -= 1;
+        }
+        self.leave_line(caller, Condition::Asleep(until));
+    }
+
+    fn relinquish(&mut self, caller: usize) {
+        let priority = |thread: usize| match self.fault {
+            Fault::RelinquishBases => self.plan.base(thread),
+            _ => self.current(thread),
+        };
+        let mut others = self.line.iter().filter(|thread| **thread != caller);
+        let equal = others.any(|thread| priority(*thread) == priority(caller));
+        if equal || self.fault == Fault::LoneRelinquisherMoves {
+            self.line.retain(|thread| *thread != caller);
+            self.line.push_back(caller);
+            self.owe(ReportKind::Yield, caller);
+        }
+    }
+
+    fn take(&mut self, caller: usize, section: usize) {
+        if self.wins(caller, section) {
+            self.holds.push(Hold { section, thread: caller });
+            self.owe(ReportKind::Won, caller);
+        } else {
+            self.leave_line(caller, Condition::Waiting(section));
+            self.begin_to_wait(caller);
+            self.owe(ReportKind::Lost, caller);
+        }
+    }
+
+    /// Whether the caller's base is above every ceiling held by others.
+    fn wins(&self, caller: usize, section: usize) -> bool {
+        let mut others = self.holds.iter().filter(|hold| hold.thread != caller);
+        if self.fault == Fault::BarsHeldOnly {
+            return others.all(|hold| hold.section != section);
+        }
+        let or_equal = self.fault == Fault::TakeAtOrAbove;
+        others.all(|hold| self.is_above(caller, hold.section, or_equal))
+    }
+
+    fn is_above(&self, thread: usize, section: usize, or_equal: bool) -> bool {
+        let (base, ceiling) = (self.plan.base(thread), self.ceiling(section));
+        base > ceiling || (or_equal && base == ceiling)
+    }
+
+    fn begin_to_wait(&mut self, thread: usize) {
+        match self.fault {
+            Fault::WaitsNewestFirst => self.waits.insert(0, thread),
+            _ => self.waits.push(thread),
+        }
+        if self.fault == Fault::WaitsByNumber {
+            self.waits.sort_unstable();
+        }
+    }
+
+    fn give(&mut self, caller: usize, section: usize) {
+        self.holds.retain(|hold| *hold != Hold { section, thread: caller });
+        let Some(heir) = self.heir() else { return };
+        let or_equal = self.fault == Fault::GiveAtOrAbove;
+        if self.holds.iter().all(|hold| self.is_above(heir, hold.section, or_equal)) {
+            self.hand_over(heir, section);
+        } else {
+            let named = if self.fault == Fault::LostNamesGiver { caller } else { heir };
+            self.owe(ReportKind::Lost, named);
+        }
+    }
+
+    /// The waiting thread of greatest base, on a tie the longest waiting.
+    fn heir(&self) -> Option<usize> {
+        let first = *self.waits.first()?;
+        if self.fault == Fault::LongestWaiter {
+            return Some(first);
+        }
+        let mut best = first;
+        for waiter in self.waits.iter().copied() {
+            let (base, greatest) = (self.plan.base(waiter), self.plan.base(best));
+            if base > greatest || (self.fault == Fault::HeirTie && base == greatest) {
+                best = waiter;
+            }
+        }
+        Some(best)
+    }
+
+    fn hand_over(&mut self, heir: usize, given: usize) {
+        let section = match self.conditions[heir] {
+            Condition::Waiting(wanted) if self.fault != Fault::HeirGetsGiven => wanted,
+            _ => given,
+        };
+        self.waits.retain(|waiter| *waiter != heir);
+        self.holds.push(Hold { section, thread: heir });
+        self.owe(ReportKind::Won, heir);
+        self.join_line(heir, self.fault == Fault::HeirAtFront);
+        self.owe(ReportKind::Ready, heir);
+    }
+}

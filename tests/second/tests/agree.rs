@@ -1,0 +1,148 @@
+//! Random runs: check, bench and live step say the same, and demand 3 holds of them.
+
+mod common;
+
+use common::{bytes, calls_only, numbers, random_plan, random_run, Random};
+use second::{bench, bench_with, check, promise, promise_with, Fault, Reply, Verdict, Watch};
+
+#[test]
+fn bench_check_and_step_agree() {
+    for seed in 0..300 {
+        let mut random = Random::new(seed);
+        let plan = random_plan(&mut random);
+        let records = numbers(&random_run(&mut random, &plan, Fault::None, 80));
+        let list = bytes(&calls_only(&records));
+        let dump = bytes(&records);
+        let mut out = vec![0xAA; dump.len() + 3];
+        assert_eq!(bench(&plan, &list, &mut out), Ok(records.len()));
+        assert_eq!(out[..dump.len()], dump);
+        assert_eq!(out[dump.len()..], [0xAA; 3]);
+        let clean = Verdict::Clean {
+            records: records.len(),
+            due: 0,
+        };
+        assert_eq!(check(&plan, &dump), clean);
+        let mut watch = Watch::new(&plan).unwrap();
+        for k in 0..records.len() {
+            let (kind, operand) = records[k];
+            let Reply::Clean { due } = watch.step(kind, operand) else {
+                panic!("record {k}")
+            };
+            let verdict = check(&plan, &bytes(&records[..=k]));
+            assert_eq!(verdict, Verdict::Clean { records: k + 1, due });
+        }
+    }
+}
+
+#[test]
+fn a_changed_record_gives_the_same_breach_everywhere() {
+    for seed in 0..300 {
+        let mut random = Random::new(seed);
+        let plan = random_plan(&mut random);
+        let mut records = numbers(&random_run(&mut random, &plan, Fault::None, 60));
+        if records.is_empty() {
+            continue;
+        }
+        let place = random.below(records.len());
+        records[place] = (1 + random.below(20) as u8, random.below(3) as u16);
+        let mut watch = Watch::new(&plan).unwrap();
+        let replies: Vec<Reply> = records.iter().map(|(k, n)| watch.step(*k, *n)).collect();
+        let broken = replies.iter().position(|r| matches!(r, Reply::Broken(_)));
+        match check(&plan, &bytes(&records)) {
+            Verdict::Refused(q) => assert!(replies.contains(&Reply::Refused(q))),
+            Verdict::Clean { .. } => assert_eq!(broken, None),
+            Verdict::Breach { record, rule } => {
+                assert_eq!(broken, Some(record));
+                assert!(replies[record..].iter().all(|r| *r == Reply::Broken(rule)));
+                promise(&plan, &records[..record]).unwrap();
+            }
+        }
+    }
+}
+
+#[test]
+fn a_short_output_is_refused_untouched() {
+    let (plan, list) = ([1, 0, 1, 0, 0], [1, 0, 1, 0, 0]);
+    let mut out = [0xAA; 10];
+    assert_eq!(bench(&plan, &list, &mut out), Err(11));
+    assert_eq!(out, [0xAA; 10]);
+    let mut out = [0xAA; 11];
+    assert_eq!(bench(&plan, &list, &mut out), Ok(3));
+    assert_eq!(out, [3, 0, 1, 16, 17, 0, 0, 0, 0, 0, 0]);
+    assert_eq!(bench(&plan, &[0, 0], &mut [0xAA; 1]), Err(11));
+}
+
+#[test]
+fn demand_3_holds() {
+    for seed in 1000..2500 {
+        let mut random = Random::new(seed);
+        let plan = random_plan(&mut random);
+        let records = numbers(&random_run(&mut random, &plan, Fault::None, 70));
+        let cut = random.below(records.len() + 1);
+        promise(&plan, &records).unwrap_or_else(|e| panic!("seed {seed}: {e}"));
+        promise(&plan, &records[..cut]).unwrap_or_else(|e| panic!("seed {seed}, cut: {e}"));
+    }
+}
+
+/// The first words of the promise's complaints over clean runs of a faulty machine.
+fn broken_parts(fault: Fault) -> Vec<String> {
+    let mut parts = Vec::new();
+    for seed in 0..200 {
+        let mut random = Random::new(seed);
+        let plan = random_plan(&mut random);
+        let records = numbers(&random_run(&mut random, &plan, fault, 70));
+        if let Err(text) = promise_with(fault, &plan, &records) {
+            let part = text.split(':').next().unwrap().to_string();
+            if !parts.contains(&part) {
+                parts.push(part);
+            }
+        }
+    }
+    parts.sort();
+    parts
+}
+
+#[test]
+fn demand_3_can_fail() {
+    let mut seen = Vec::new();
+    for fault in Fault::ALL {
+        let parts = broken_parts(fault);
+        println!("{}: {}", fault.name(), parts.join(", "));
+        seen.extend(parts);
+    }
+    for part in ["part 1", "part 2", "part 3", "part 4"] {
+        assert!(seen.iter().any(|p| p == part), "{part} never failed");
+    }
+}
+
+#[test]
+fn demand_3_refuses_an_unclean_list() {
+    let text = promise(&[1, 0, 1, 0, 0], &[(16, 0)]).unwrap_err();
+    assert_eq!(text, "not clean: record 0 breaks rule 28");
+}
+
+/// Whether the bench of a faulty machine answers this list otherwise than the right one.
+fn told_apart(fault: Fault, plan: &[u8], calls: &[(u8, u16)]) -> bool {
+    let list = bytes(calls);
+    let (mut right, mut wrong) = (vec![0; 3000], vec![0; 3000]);
+    bench(plan, &list, &mut right) != bench_with(fault, plan, &list, &mut wrong) || right != wrong
+}
+
+#[test]
+fn random_runs_tell_the_machine_faults_apart() {
+    // These do not show in the dump of a list: reports in a dump are always the due ones.
+    let silent = [Fault::Rules29And30Swapped, Fault::OwnerTie];
+    for fault in Fault::ALL.into_iter().filter(|f| !silent.contains(f)) {
+        let told = (0..2000).any(|seed| {
+            let mut random = Random::new(seed);
+            let plan = random_plan(&mut random);
+            let run = numbers(&random_run(&mut random, &plan, Fault::None, 60));
+            let mut calls = calls_only(&run);
+            let admitted = told_apart(fault, &plan, &calls);
+            // An End at the end, which the right machine may refuse.
+            calls.push((4, 0));
+            admitted || told_apart(fault, &plan, &calls)
+        });
+        assert!(told, "{} was not told apart", fault.name());
+    }
+}

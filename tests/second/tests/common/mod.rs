@@ -1,0 +1,79 @@
+//! Random plans and runs for the tests.
+
+use second::{broken_rule, Call, Fault, Machine, Plan, Record};
+
+/// A small generator of repeatable numbers (xorshift).
+pub struct Random(u64);
+
+impl Random {
+    pub fn new(seed: u64) -> Random {
+        Random((seed + 1).wrapping_mul(0x9E37_79B9_7F4A_7C15) | 1)
+    }
+
+    pub fn below(&mut self, bound: usize) -> usize {
+        self.0 ^= self.0 << 13;
+        self.0 ^= self.0 >> 7;
+        self.0 ^= self.0 << 17;
+        ((self.0 >> 11) % bound as u64) as usize
+    }
+}
+
+/// The bytes of a plan of a few threads and sections, with some equal priorities and
+/// most sections needed by most threads.
+pub fn random_plan(random: &mut Random) -> Vec<u8> {
+    let threads = 1 + random.below(6);
+    let sections = random.below(5);
+    let priorities = 1 + random.below(5);
+    let mut bytes = vec![threads as u8, sections as u8];
+    bytes.extend((0..threads).map(|_| 1 + random.below(priorities) as u8));
+    for _ in 0..threads {
+        let needs = random.below(1 << sections) | random.below(1 << sections);
+        bytes.extend([needs as u8, 0]);
+    }
+    bytes
+}
+
+/// Every call that the machine admits, the more interesting ones several times.
+fn admitted(machine: &Machine) -> Vec<Call> {
+    let mut calls = vec![(1, Call::Tick), (1, Call::End), (2, Call::Relinquish)];
+    calls.extend((1..4).map(|n| (1, Call::Delay(n))));
+    calls.extend((0..machine.plan.threads()).map(|thread| (3, Call::Create(thread))));
+    for section in 0..machine.plan.sections() {
+        calls.extend([(6, Call::Take(section)), (2, Call::Give(section))]);
+    }
+    calls.retain(|(_, call)| broken_rule(machine, Record::Call(*call)).is_none());
+    calls.into_iter().flat_map(|(weight, call)| vec![call; weight]).collect()
+}
+
+/// That many calls with their reports, as a machine with that fault makes them.
+pub fn random_run(random: &mut Random, plan: &[u8], fault: Fault, calls: usize) -> Vec<Record> {
+    let mut machine = Machine::new(Plan::read(plan, Fault::None).unwrap(), fault);
+    let mut records = Vec::new();
+    for _ in 0..calls {
+        let choice = admitted(&machine);
+        let record = Record::Call(choice[random.below(choice.len())]);
+        machine.advance(record);
+        records.push(record);
+        while let Some(report) = machine.due.front().copied() {
+            machine.advance(Record::Report(report));
+            records.push(Record::Report(report));
+        }
+    }
+    records
+}
+
+pub fn numbers(records: &[Record]) -> Vec<(u8, u16)> {
+    records.iter().map(|record| record.numbers()).collect()
+}
+
+/// The bytes of a dump or call list.
+pub fn bytes(records: &[(u8, u16)]) -> Vec<u8> {
+    let mut bytes = (records.len() as u16).to_le_bytes().to_vec();
+    bytes.extend(records.iter().map(|(kind, _)| *kind));
+    bytes.extend(records.iter().flat_map(|(_, operand)| operand.to_le_bytes()));
+    bytes
+}
+
+pub fn calls_only(records: &[(u8, u16)]) -> Vec<(u8, u16)> {
+    records.iter().copied().filter(|(kind, _)| *kind <= 7).collect()
+}

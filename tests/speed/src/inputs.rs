@@ -1,0 +1,97 @@
+//! Clean dumps to measure on. They are written by the peer's machine, and the same on every run.
+
+mod random;
+mod recorder;
+mod regular;
+
+#[cfg(test)]
+pub use random::Draw;
+pub use recorder::Recorder;
+
+pub struct Input {
+    pub name: &'static str,
+    pub plan: Vec<u8>,
+    pub dump: Vec<u8>,
+    /// The whole check may cost this many times the peer's.
+    pub aim: f64,
+}
+
+impl Input {
+    pub fn records(&self) -> usize {
+        u16::from_le_bytes([self.dump[0], self.dump[1]]) as usize
+    }
+
+    /// The records as kinds and operands.
+    pub fn decoded(&self) -> Vec<(u8, u16)> {
+        let (kinds, operands) = self.dump[2..].split_at(self.records());
+        kinds
+            .iter()
+            .zip(operands.chunks_exact(2))
+            .map(|(&kind, x)| (kind, u16::from_le_bytes([x[0], x[1]])))
+            .collect()
+    }
+}
+
+/// The most records that a dump has.
+pub const LONG: usize = 20_000;
+
+/// Every input at full length.
+pub fn all() -> Vec<Input> {
+    vec![
+        input("ticks-few", 1.0, random::ticks_few(1, LONG)),
+        ticks_many(1, LONG),
+        mixed("mixed-4", 1, 4, 4, LONG),
+        mixed("mixed-8", 1, 8, 8, LONG),
+        mixed("mixed-16", 1, 16, 16, LONG),
+        input("contention", 1.5, regular::contention(LONG)),
+        input("nested", 1.5, regular::nested(LONG)),
+        input("relinquish", 1.5, regular::relinquish(LONG)),
+    ]
+}
+
+fn input(name: &'static str, aim: f64, (plan, dump): (Vec<u8>, Vec<u8>)) -> Input {
+    Input { name, plan, dump, aim }
+}
+
+pub fn ticks_many(seed: u64, records: usize) -> Input {
+    input("ticks-many", 1.0, random::ticks_many(seed, records))
+}
+
+pub fn mixed(name: &'static str, seed: u64, threads: usize, sections: usize, records: usize) -> Input {
+    input(name, 1.0, random::mixed(seed, threads, sections, records))
+}
+
+#[cfg(test)]
+mod tests {
+    use super::*;
+    use crate::peer::*;
+
+    fn share(input: &Input, kind: u8) -> f64 {
+        input.decoded().iter().filter(|record| record.0 == kind).count() as f64 / input.records() as f64
+    }
+
+    #[test]
+    fn every_input_is_long() {
+        assert!(all().iter().all(|input| input.records() == 20_000));
+    }
+
+    #[test]
+    fn mixed_inputs_have_every_kind_and_a_tenth_of_ticks() {
+        for input in all().iter().filter(|input| input.name.starts_with("mixed")) {
+            assert!(
+                (CREATE..=TICK).chain(READY..=YIELD).all(|kind| share(input, kind) > 0.01),
+                "{}",
+                input.name
+            );
+            assert!((0.08..0.12).contains(&share(input, TICK)), "{}: {}", input.name, share(input, TICK));
+        }
+    }
+
+    #[test]
+    fn tick_inputs_are_mostly_ticks_and_some_wake() {
+        for (input, least) in all().iter().zip([0.98, 0.8]) {
+            assert!(share(input, TICK) > least, "{}: {}", input.name, share(input, TICK));
+            assert!(share(input, READY) > 0.002, "{}: {}", input.name, share(input, READY));
+        }
+    }
+}

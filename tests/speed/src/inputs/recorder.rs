@@ -1,0 +1,73 @@
+//! Makes calls on the peer's machine and writes down what happens.
+
+use crate::peer::{self, Machine};
+
+pub struct Recorder {
+    machine: Machine<false>,
+    plan: Vec<u8>,
+    records: Vec<(u8, u16)>,
+    wanted: usize,
+}
+
+impl Recorder {
+    /// For a plan of as many threads as there are pairs of base priority and needs.
+    pub fn new(sections: usize, threads: &[(u8, u16)], wanted: usize) -> Recorder {
+        let mut plan = vec![threads.len() as u8, sections as u8];
+        plan.extend(threads.iter().map(|thread| thread.0));
+        plan.extend(threads.iter().flat_map(|thread| thread.1.to_le_bytes()));
+        let read = peer::plan(&plan).expect("the plan of an input passes questions 1 to 4");
+        Recorder {
+            machine: Machine::new(read),
+            plan,
+            records: Vec::new(),
+            wanted,
+        }
+    }
+
+    /// Writes the call and its reports down if the machine admits it.
+    pub fn call(&mut self, kind: u8, operand: u16) -> bool {
+        if self.machine.judge(kind, operand).is_err() {
+            return false;
+        }
+        self.records.push((kind, operand));
+        while let Some(report) = self.machine.first_due() {
+            self.records.push((report.kind, report.thread));
+            self.machine
+                .judge(report.kind, report.thread)
+                .expect("the report due is the one that is given");
+        }
+        true
+    }
+
+    /// A call that the machine must admit.
+    pub fn must(&mut self, kind: u8, operand: u16) {
+        assert!(
+            self.call(kind, operand),
+            "call {kind} {operand} is not admitted after {} records",
+            self.records.len()
+        );
+    }
+
+    pub fn full(&self) -> bool {
+        self.records.len() >= self.wanted
+    }
+
+    pub fn running(&self) -> Option<u16> {
+        self.machine.caller().ok()
+    }
+
+    /// The section that the running thread took last of those it still holds.
+    pub fn last_taken(&self) -> Option<u16> {
+        let at = self.machine.holds.last_of(self.running()?)?;
+        Some(self.machine.holds.items()[at].section)
+    }
+
+    /// Plan and dump; reports beyond the wanted number stay due.
+    pub fn finish(mut self) -> (Vec<u8>, Vec<u8>) {
+        self.records.truncate(self.wanted);
+        let mut dump = (self.records.len() as u16).to_le_bytes().to_vec();
+        dump.extend(self.records.iter().map(|record| record.0));
+        dump.extend(self.records.iter().flat_map(|record| record.1.to_le_bytes()));
+        (self.plan, dump)
+    }
+}

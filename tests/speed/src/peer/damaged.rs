@@ -1,0 +1,47 @@
+//! Damaged dumps: both peers say of them what the proved watch says.
+
+use super::*;
+use crate::inputs::{mixed, Draw, Input};
+
+/// Changes a byte of the plan or of the dump, a record, or the length.
+fn damage(input: &mut Input, draw: &mut Draw) {
+    let records = input.records();
+    match draw.below(6) {
+        0 => {
+            let at = draw.below(input.plan.len());
+            input.plan[at] = draw.below(66) as u8;
+        }
+        1 => input.dump.truncate(draw.below(8)),
+        2 => input.dump.push(0),
+        3 => {
+            let at = 2 + draw.below(input.dump.len() - 2);
+            input.dump[at] = draw.below(256) as u8;
+        }
+        _ => {
+            let (from, to) = (draw.below(records), draw.below(records));
+            input.dump[2 + to] = input.dump[2 + from];
+            for byte in 0..2 {
+                input.dump[2 + records + 2 * to + byte] = input.dump[2 + records + 2 * from + byte];
+            }
+        }
+    }
+}
+
+#[test]
+fn verdicts_agree_on_damaged_dumps() {
+    let mut draw = Draw(7);
+    let mut seen = std::collections::BTreeSet::new();
+    for seed in 0..4000 {
+        let mut input = mixed("damaged", seed, 1 + draw.below(16), draw.below(17), 300);
+        damage(&mut input, &mut draw);
+        let verdict = beltcairn::check(&input.plan, &input.dump);
+        assert_eq!(check::<false>(&input.plan, &input.dump), verdict, "seed {seed}");
+        assert_eq!(check::<true>(&input.plan, &input.dump), verdict, "seed {seed}");
+        match verdict {
+            Verdict::Refused(number) | Verdict::Breach { rule: number, .. } => seen.insert(number),
+            Verdict::Clean { .. } => seen.insert(0),
+        };
+    }
+    let wanted: Vec<u8> = (0..=8).chain(21..=30).collect();
+    assert_eq!(seen.into_iter().collect::<Vec<u8>>(), wanted);
+}

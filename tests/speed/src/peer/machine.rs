@@ -1,0 +1,194 @@
+//! What the machine remembers, and rules 21 to 30.
+
+use super::*;
+
+/// Threads in order: the line, or the waits.
+#[derive(Clone, Copy)]
+pub struct Queue {
+    items: [u16; 16],
+    count: usize,
+}
+
+impl Queue {
+    pub const EMPTY: Queue = Queue { items: [0; 16], count: 0 };
+
+    pub fn items(&self) -> &[u16] {
+        &self.items[..self.count]
+    }
+
+    pub fn push(&mut self, thread: u16) {
+        self.items[self.count] = thread;
+        self.count += 1;
+    }
+
+    pub fn remove(&mut self, thread: u16) {
+        if let Some(at) = self.items().iter().position(|&t| t == thread) {
+            self.count -= 1;
+            for i in at..self.count {
+                self.items[i] = self.items[i + 1];
+            }
+        }
+    }
+}
+
+#[derive(Clone, Copy)]
+pub struct Hold {
+    pub section: u16,
+    pub thread: u16,
+}
+
+/// The holds in order of taking.
+#[derive(Clone, Copy)]
+pub struct Holds {
+    items: [Hold; 16],
+    count: usize,
+}
+
+impl Holds {
+    pub const EMPTY: Holds = Holds {
+        items: [Hold { section: 0, thread: 0 }; 16],
+        count: 0,
+    };
+
+    pub fn items(&self) -> &[Hold] {
+        &self.items[..self.count]
+    }
+
+    pub fn push(&mut self, hold: Hold) {
+        self.items[self.count] = hold;
+        self.count += 1;
+    }
+
+    pub fn remove_at(&mut self, at: usize) {
+        self.count -= 1;
+        for i in at..self.count {
+            self.items[i] = self.items[i + 1];
+        }
+    }
+
+    /// Where the thread's latest hold stands.
+    pub fn last_of(&self, thread: u16) -> Option<usize> {
+        self.items().iter().rposition(|hold| hold.thread == thread)
+    }
+}
+
+#[derive(Clone, Copy, PartialEq)]
+pub enum Condition {
+    Dormant,
+    Ready,
+    Asleep,
+    WaitingFor(u16),
+}
+
+#[derive(Clone, Copy)]
+pub struct Report {
+    pub kind: u8,
+    pub thread: u16,
+}
+
+pub struct Machine<const TUNED: bool> {
+    pub plan: Plan,
+    pub tick: u32,
+    /// With TUNED: the least of the wakes.
+    pub soonest: u32,
+    pub conditions: [Condition; 16],
+    /// When each sleeper wakes; the greatest number for a thread that is not asleep.
+    pub wakes: [u32; 16],
+    pub line: Queue,
+    pub holds: Holds,
+    pub waits: Queue,
+    pub reported: u16,
+    reports: [Report; 17],
+    given: usize,
+    made: usize,
+}
+
+impl<const TUNED: bool> Machine<TUNED> {
+    pub fn new(plan: Plan) -> Self {
+        Machine {
+            plan,
+            tick: 0,
+            soonest: u32::MAX,
+            conditions: [Condition::Dormant; 16],
+            wakes: [u32::MAX; 16],
+            line: Queue::EMPTY,
+            holds: Holds::EMPTY,
+            waits: Queue::EMPTY,
+            reported: NOBODY,
+            reports: [Report { kind: 0, thread: 0 }; 17],
+            given: 0,
+            made: 0,
+        }
+    }
+
+    /// How many reports are due.
+    pub fn due(&self) -> usize {
+        self.made - self.given
+    }
+
+    /// The report due first.
+    pub fn first_due(&self) -> Option<Report> {
+        self.reports[..self.made].get(self.given).copied()
+    }
+
+    pub fn report(&mut self, kind: u8, thread: u16) {
+        self.reports[self.made] = Report { kind, thread };
+        self.made += 1;
+    }
+
+    /// Takes one record, or says which rule it breaks and stays as it is. Called in two places, but wanted in the loop of the check.
+    #[inline(always)]
+    pub fn judge(&mut self, kind: u8, operand: u16) -> Result<(), u8> {
+        if kind >= READY {
+            return self.hear(kind, operand);
+        }
+        if self.due() > 0 {
+            return Err(21);
+        }
+        (self.given, self.made) = (0, 0);
+        match kind {
+            TICK => {
+                self.tick();
+                return Ok(());
+            }
+            CREATE => self.create(operand)?,
+            _ => self.call(self.caller()?, kind, operand)?,
+        }
+        self.settle();
+        Ok(())
+    }
+
+    /// A call that a thread makes.
+    fn call(&mut self, caller: u16, kind: u8, operand: u16) -> Result<(), u8> {
+        match kind {
+            DELAY => self.delay(caller, operand),
+            RELINQUISH => self.relinquish(caller),
+            END => self.end(caller),
+            TAKE => self.take(caller, operand),
+            _ => self.give(caller, operand),
+        }
+    }
+
+    /// The running thread; asked only while nothing is due.
+    pub fn caller(&self) -> Result<u16, u8> {
+        if self.reported == NOBODY {
+            return Err(22);
+        }
+        Ok(self.reported)
+    }
+
+    fn hear(&mut self, kind: u8, thread: u16) -> Result<(), u8> {
+        if self.given == self.made {
+            return Err(28);
+        }
+        let first = self.reports[self.given];
+        if first.kind != kind {
+            return Err(29);
+        }
+        if first.thread != thread {
+            return Err(30);
+        }
+        self.given += 1;
+        Ok(())
+    }
+}
