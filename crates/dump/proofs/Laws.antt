@@ -16,6 +16,8 @@ use Rattle.dump.proofs.Answers as answers
 pub use Rattle.dump.proofs.Words.{Stands}
 -- one record, its kind and its operand, each way and back
 pub use Rattle.dump.proofs.Codec.{allowed-back, fits-kind, isCallRecord, kind-back, operand-back, operand-fits, record-back}
+-- which record of the machine a kind and an operand are read as
+pub use Rattle.dump.proofs.Readings.{report-reads, call-reads}
 -- an operand that fits still fits with more threads and sections
 pub use Rattle.dump.proofs.Wider.{wider}
 -- records written as bytes

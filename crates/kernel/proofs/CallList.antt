@@ -17,14 +17,11 @@ use Rattle.plan.specs.View as plans
 use Rattle.plan.specs.declared.Plan.{Plan}
 use Rattle.plan.proofs.Loops.{listed}
 use Rattle.plan.proofs.Laws.{threads-view, valid-fits}
-use Rattle.machine.specs.declared.rules.Record as machine
 use Rattle.dump.specs.Layout.{recordCount, kindAt, operandAt, decode, kindOf, operandOf}
 use Rattle.dump.specs.Questions.{mostRecords, operandFits, refusal, Whole}
-use Rattle.dump.specs.Reading.{Reads}
 use Rattle.dump.proofs.Laws.{isCallRecord, kind-back, operand-back, fits-kind, allowed-back}
 use Rattle.dump.proofs.Laws.{entryAt}
 use Rattle.dump.proofs.Laws.{decode-length, decoded-calls}
-use Rattle.dump.proofs.Laws.{wider}
 use Rattle.dump.proofs.Laws as dumps
 use Rattle.kernel.specs.Contracts.{Passed}
 
@@ -40,10 +37,6 @@ calls list = callsOf (decode list)
 
 abbrev pub callAt : (list : List ℕ) (k : ℕ) → Call
 callAt list k = getD (calls list) k Tick
-
--- what is read of one kind and operand is read of the same numbers
-pub reads-as : {x : machine.Record} {k n k' n' : ℕ} → Reads x k n → k ≡ k' → n ≡ n' → Reads x k' n'
-reads-as {x} {n = n} {k' = k'} r e f = subst (Reads x k') f (subst (λ i. Reads x i n) e r)
 
 module _ {p : Plan} {ceilings list : List ℕ} {n : ℕ} (passed : Passed p ceilings list n) where
   pub plan-fits : plans.Fits p
@@ -79,23 +72,19 @@ module _ {p : Plan} {ceilings list : List ℕ} {n : ℕ} (passed : Passed p ceil
     pub call-next : drop k (calls list) ≡ callAt list k ∷ drop (k + 1) (calls list)
     call-next = drop-cons (calls list) k Tick (omega (arith, calls-count)) ∙ ap (λ j. callAt list k ∷ drop j (calls list)) (sym (add-one k))
 
-    fits : T (operandFits (p .threads) (p .sections) (kindAt list k) (operandAt list k))
-    fits = dumps.entry-passes (p .threads) (p .sections) true list (passed .passes) k below .1
-
-    -- with 16 threads and sections at most, every operand can be read
-    pub call-readable : T (operandFits 16 16 (kindAt list k) (operandAt list k))
-    call-readable = wider (p .threads) (p .sections) 16 16 (kindAt list k) (operandAt list k) (plan-fits .threads) (plan-fits .sections) fits
+    pub call-fits : T (operandFits (p .threads) (p .sections) (kindAt list k) (operandAt list k))
+    call-fits = dumps.entry-passes (p .threads) (p .sections) true list (passed .passes) k below .1
 
     pub call-allowed : T (allowed (plans.view p) (entryAt list k))
     call-allowed =
         allowed-back (plans.view p) (kindAt list k) (operandAt list k)
-        (subst (λ t. T (operandFits t (p .sections) (kindAt list k) (operandAt list k))) (sym (threads-view p)) fits)
+        (subst (λ t. T (operandFits t (p .sections) (kindAt list k) (operandAt list k))) (sym (threads-view p)) call-fits)
 
     -- the kind and the operand read are those of the call
     pub call-kind : kindAt list k ≡ kindOf (call (callAt list k))
     call-kind =
-        sym (kind-back (kindAt list k) (operandAt list k) (fits-kind (p .threads) (p .sections) (kindAt list k) (operandAt list k) fits))
+        sym (kind-back (kindAt list k) (operandAt list k) (fits-kind (p .threads) (p .sections) (kindAt list k) (operandAt list k) call-fits))
         ∙ ap kindOf (sym call-is)
 
     pub call-operand : operandAt list k ≡ operandOf (call (callAt list k))
-    call-operand = sym (operand-back (p .threads) (p .sections) (kindAt list k) (operandAt list k) fits) ∙ ap operandOf (sym call-is)
+    call-operand = sym (operand-back (p .threads) (p .sections) (kindAt list k) (operandAt list k) call-fits) ∙ ap operandOf (sym call-is)

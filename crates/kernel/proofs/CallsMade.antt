@@ -24,20 +24,21 @@ use Rattle.model.proofs.Laws.{Reached, begin, next, reached-invariant, due-fits
 use Rattle.plan.specs.View as plans
 use Rattle.plan.specs.declared.Plan.{Plan}
 use Rattle.plan.proofs.Laws.{threads-view}
-use Rattle.machine.specs.declared.rules.Record.{Record}
 use Rattle.machine.specs.declared.state.State.{State}
-use Rattle.machine.specs.declared.step.Stepped.{Stepped}
 use Rattle.machine.specs.Lists.{numbered}
 use Rattle.machine.specs.View.{planOf, view}
-use Rattle.machine.specs.Steps.{recordOf, Steps, Fresh, Answers}
+use Rattle.machine.specs.Steps.{Fresh, Answers}
 use Rattle.machine.proofs.Laws.{stands-formed, ceilings-of}
-use Rattle.dump.specs.Layout.{kindAt, operandAt}
-use Rattle.dump.specs.Reading.{Reads}
+use Rattle.dump.specs.Layout.{kindAt, operandAt, recordOf}
+use Rattle.dump.specs.Questions.{operandFits}
+use Rattle.dump.proofs.Laws.{fits-kind, entryAt}
+use Rattle.monitor.specs.declared.single.Stepped.{Stepped}
+use Rattle.monitor.specs.Contracts.{Single}
 use Rattle.kernel.specs.Answers.{isMade, recordsOf}
 use Rattle.kernel.specs.Contracts.{Passed, Settles, madeOf}
 use Rattle.kernel.proofs.Giving.{IsFormed}
 use Rattle.kernel.proofs.Benching.{behind-nil, behind-both, bench-ended, bench-moved, bench-broke, settled-reached, chosen-settled}
-use Rattle.kernel.proofs.CallList.{calls, callAt, plan-fits, calls-few, calls-end, call-is, call-next, call-allowed}
+use Rattle.kernel.proofs.CallList.{calls, callAt, plan-fits, calls-few, calls-end, call-is, call-fits, call-next, call-allowed}
 
 -- after k calls: the state, the chosen thread, and the records so far; a call makes T + 1 reports at most, so 18 records
 pub record CallsMade (p : Plan) (list : List ℕ) (k : ℕ) (s : State) (who : ℕ) (done : List records.Record) : Type 0 where
@@ -94,26 +95,36 @@ module _ {p : Plan} {ceilings list : List ℕ} {n : ℕ} (passed : Passed p ceil
   carried : (P : model.Plan → Type 0) → P (plans.view p) → P (planOf (s .machine))
   carried P h = subst (λ (q : Plan). P (plans.view q)) (sym (m .plan')) h
 
-  module _ (h : k < n) (x : Record) (reads : Reads x (kindAt list k) (operandAt list k)) where
-    -- the record read is call k
-    read-call : recordOf x ≡ call (callAt list k)
-    read-call = reads .same ∙ sym (call-is passed k h)
+  module _ (h : k < n) where
+    -- record k is call k
+    is-call : entryAt list k ≡ call (callAt list k)
+    is-call = sym (call-is passed k h)
 
-    pub made-steps : Steps s ceilings who x
-    made-steps =
+    steps-over : Single s ceilings who (kindAt list k) (operandAt list k)
+    steps-over =
         record {
-          formed = stands-formed s (carried (λ q. T (model.validPlan q)) (passed .valid)) (carried (λ q. Reached q (view s)) (m .reached)) (omega (arith, m .tick, calls-few passed));
-          ceilings' = ceilings-of (s .machine) p ceilings (m .plan') (passed .ceilings');
-          chosen' = carried (λ q. who ≡ numbered (chosen q (view s))) (m .chosen');
-          kind = reads .kind';
-          allowed = carried (λ q. T (allowed q (recordOf x))) (subst (λ (r : records.Record). T (allowed (plans.view p) r)) (sym (reads .same)) (call-allowed passed k h));
-          tick = λ e. omega (arith, m .tick, calls-few passed);
+          kind' = fits-kind _ _ (kindAt list k) (operandAt list k) (call-fits passed k h);
+          operand' = subst (λ (q : Plan). T (operandFits (q .threads) (q .sections) (kindAt list k) (operandAt list k))) (sym (m .plan')) (call-fits passed k h);
+          steps =
+              record {
+                formed = stands-formed s (carried (λ q. T (model.validPlan q)) (passed .valid)) (carried (λ q. Reached q (view s)) (m .reached)) (omega (arith, m .tick, calls-few passed));
+                ceilings' = ceilings-of (s .machine) p ceilings (m .plan') (passed .ceilings');
+                chosen' = carried (λ q. who ≡ numbered (chosen q (view s))) (m .chosen');
+                allowed = carried (λ q. T (allowed q (entryAt list k))) (call-allowed passed k h);
+                tick = λ z. omega (arith, m .tick, calls-few passed);
+              };
         }
 
-    module _ (o : Stepped) (a : Answers o s x) where
+    pub made-steps : {kind operand : ℕ} → (kind ≡ kindAt list k) × (operand ≡ operandAt list k) → Single s ceilings who kind operand
+    made-steps e = rw (e .0, e .1) steps-over
+
+    module _ {kind operand : ℕ} (numbers : (kind ≡ kindAt list k) × (operand ≡ operandAt list k)) (o : Stepped) (answers : Answers (o .state) (o .chosen) (o .rule) s (recordOf kind operand)) where
+      a : Answers (o .state) (o .chosen) (o .rule) s (entryAt list k)
+      a = rw (numbers .0, numbers .1) at answers
+
       -- the model's step for the call, in the plan that came
-      as-call : (P : model.Plan → records.Record → Type 0) → P (planOf (s .machine)) (recordOf x) → P (plans.view p) (call (callAt list k))
-      as-call P g = subst (λ (r : records.Record). P (plans.view p) r) read-call (subst (λ (q : Plan). P (plans.view q) (recordOf x)) (m .plan') g)
+      as-call : (P : model.Plan → records.Record → Type 0) → P (planOf (s .machine)) (entryAt list k) → P (plans.view p) (call (callAt list k))
+      as-call P g = subst (λ (r : records.Record). P (plans.view p) r) is-call (subst (λ (q : Plan). P (plans.view q) (entryAt list k)) (m .plan') g)
 
       -- what is written from here on
       onwards : benchFrom (plans.view p) (view s) (drop k (calls list)) ≡ benchFrom (plans.view p) (view s) (callAt list k ∷ drop (k + 1) (calls list))

@@ -4,9 +4,8 @@ ghost use Rattle.model.specs.Formed.{formed};
 ghost use Rattle.machine.specs.View.{planOf, view};
 ghost use Rattle.kernel.specs.Contracts.{Passed, Settles, Counts, madeOf};
 use dump::layout::entry_at;
-use dump::records::record_of;
 use machine::state::State;
-use machine::step::step;
+use monitor::single::step;
 use plan::Plan;
 
 // Whether every call is admitted, and how many records there are, 0 where one is not.
@@ -38,7 +37,7 @@ pub(crate) fn tally(plan: Plan, ceilings: &[u8; 16], list: &[u8], n: usize) -> C
     let mut records: usize = 0;
     let mut k: usize = 0;
     while k < n {
-        let o = step(s, ceilings, who, record_of(entry_at(list, n, k)));
+        let o = step(s, ceilings, who, entry_at(list, n, k));
         let moved = o.state;
         if o.rule != 0 {
             return Counted {

@@ -9,10 +9,9 @@ ghost use Rattle.dump.specs.Layout.{operandOf};
 ghost use Rattle.kernel.specs.Answers.{recordsOf, bytesFor, inFront};
 ghost use Rattle.kernel.specs.Contracts.{Passed, madeOf, placed, ReportsFit, Places, AllFit};
 use dump::layout::entry_at;
-use dump::records::record_of;
 use machine::reports::Report;
 use machine::state::State;
-use machine::step::step;
+use monitor::single::step;
 use plan::Plan;
 
 // A state, and how many records are written.
@@ -83,7 +82,7 @@ pub(crate) fn write(
     let mut k: usize = 0;
     while k < calls {
         let e = entry_at(list, calls, k);
-        let o = step(s, ceilings, who, record_of(e));
+        let o = step(s, ceilings, who, e);
         put(out, n, i, e.kind, e.operand);
         let moved = o.state;
         let w = put_reports(moved, out, n, i + 1);

@@ -20,11 +20,11 @@ use Rattle.plan.specs.declared.Plan.{Plan}
 use Rattle.plan.proofs.Laws.{threads-view}
 use Rattle.machine.specs.declared.Machine.{Machine}
 use Rattle.machine.specs.declared.calls.Called.{Called}
-use Rattle.machine.specs.declared.step.Stepped.{Stepped}
 use Rattle.machine.specs.Lists.{queued, held, owed}
 use Rattle.machine.specs.View.{planOf, viewed, idle, view}
-use Rattle.machine.specs.Contracts.{Creates, Ticks, Runs, Takes, Gives, Ceilings, Chooses, Meets}
-use Rattle.machine.specs.Steps.{Settles, Settled}
+use Rattle.machine.specs.Contracts.{Ticks, Ceilings, Chooses, reportsOf}
+use Rattle.machine.specs.Steps.{Settles}
+use Rattle.machine.proofs.Admitted.{Creates, Runs, Takes, Gives, Meets}
 use Rattle.machine.proofs.Facts.{Facts, facts}
 use Rattle.machine.proofs.Views.{length-queued, length-held, length-owed}
 use Rattle.machine.proofs.Room.{waiting-known, threads-fit, waiting-fits, waiting-room, woken-room, create-room, caller-fits, without-room, waits-room, take-room, give-room}
@@ -226,10 +226,6 @@ pub settles : {m : Machine} {st : State} (r : Called) → Facts m → Meets r m 
 settles r f k a ceilings c =
     record {
       chooses = chooses r f k a ceilings c;
-      room = omega (arith, length-owed (r .reports), ap (λ (z : State). length (z .due)) (k .seen), a .few);
+      room = omega (arith, length-owed (reportsOf r), ap (λ (z : State). length (z .due)) (k .seen), a .few);
       last = ap lastReported (k .seen) ∙ a .last ∙ sym (ap (λ (z : State). z .reported) (k .seen));
     }
-
--- a call with its Switch: where `st` is `perform p k (idle m)`, the right-hand side is `effect p (call k) (idle m)`
-pub effected : {m : Machine} {st : State} (r : Called) (c : Stepped) → Meets r m st → Settled c r → view (c .state) ≡ switch (planOf m) st
-effected {m} r c k z = z .seen ∙ ap (λ p. switch p (viewed (r .machine) (owed (r .reports)))) (plan-kept r k) ∙ ap (switch (planOf m)) (k .seen)

@@ -1,7 +1,7 @@
 -- What other crates may cite of the machine. Nothing here speaks of arrays: a state is known by the plan that it carries and the model's state
 -- that it stands for.
 use mathlib.Core.Path.{_≡_, ap, sym, _∙_}
-use mathlib.Core.Logic.{_⊎_, inl, inr, _≢_}
+use mathlib.Core.Logic.{_≢_}
 use mathlib.Core.Bool.{cond}
 use mathlib.Core.List.{List, map}
 use Prim.Native.Nat.{ℕ, _≤_}
@@ -9,19 +9,17 @@ use borrow.Author.Tests.{eq-eqb, ne-eqb}
 use lib.Dec.{T}
 use Rattle.model.specs.Searches.{upTo}
 use Rattle.model.specs.Plan as model
+use Rattle.model.specs.Records as records
 use Rattle.model.specs.Runs.{moved, broke, step}
 use Rattle.model.specs.Formed.{lastTick, formed}
-use Rattle.model.proofs.Tests.{equal?}
 use Rattle.model.proofs.Laws.{Reached, WellFormed, well-formed, reached-formed}
 use Rattle.plan.specs.View as plans
 use Rattle.plan.specs.declared.Plan.{Plan}
 use Rattle.machine.specs.declared.Machine.{Machine}
-use Rattle.machine.specs.declared.rules.Record.{Record}
 use Rattle.machine.specs.declared.state.State.{State}
-use Rattle.machine.specs.declared.step.Stepped.{Stepped}
 use Rattle.machine.specs.View.{planOf, view}
 use Rattle.machine.specs.Contracts.{Ceilings, Chooses}
-use Rattle.machine.specs.Steps.{recordOf, Answers}
+use Rattle.machine.specs.Steps.{Answers}
 use Rattle.machine.proofs.Views.{sized}
 use Rattle.machine.proofs.Facts.{facts}
 use Rattle.machine.proofs.Chosen.{listed}
@@ -30,6 +28,11 @@ use Rattle.machine.proofs.Owing.{unowed}
 pub use Rattle.machine.proofs.ReportKinds.{by-kind, kind-is}
 -- who is chosen does not depend on what is due
 pub use Rattle.machine.proofs.Switched.{chosen-due}
+-- the arrays of a state and of what a call hands back have room for T + 1 reports, and those due stand within
+pub use Rattle.machine.proofs.Sized.{due-size, called-size}
+pub use Rattle.machine.proofs.Owing.{due-fits}
+-- what a step answers, case by case, on a machine and its reports side by side
+pub use Rattle.machine.proofs.Outcomes.{call-due, report-breaks, report-given, report-undue, create-asked, caller-asked, take-asked, give-asked, tick-asked, tick-passes, call-breaks, call-settles, call-unswitched, call-switched}
 
 -- a state that stands for one that a run reaches is well formed, up to the last tick number
 pub stands-formed : (s : State) → T (model.validPlan (planOf (s .machine))) → Reached (planOf (s .machine)) (view s) → view s .tickNumber ≤ lastTick → T (formed (planOf (s .machine)) (view s))
@@ -48,9 +51,9 @@ pub ceilings-of : (m : Machine) (p : Plan) (ceilings : List ℕ) → m .plan ≡
 ceilings-of m p ceilings e c = c ∙ ap (λ (q : Plan). map (model.ceiling (plans.view q)) (upTo 16)) (sym e)
 
 -- a step moves as the model's does, or answers its rule and leaves the state as it came
-pub stepped : (r : Stepped) (s : State) (x : Record) → Answers r s x → (step (planOf (s .machine)) (view s) (recordOf x) ≡ moved (view (r .state))) ⊎ ((step (planOf (s .machine)) (view s) (recordOf x) ≡ broke (r .rule)) × (r .state ≡ s))
-stepped r s x a = go (equal? (r .rule) 0)
-  where
-    go : (r .rule ≡ 0) ⊎ (r .rule ≢ 0) → (step (planOf (s .machine)) (view s) (recordOf x) ≡ moved (view (r .state))) ⊎ ((step (planOf (s .machine)) (view s) (recordOf x) ≡ broke (r .rule)) × (r .state ≡ s))
-    go (inl e) = inl (sym (a .outcome) ∙ ap (λ b. cond b (moved (view (r .state))) (broke (r .rule))) (eq-eqb (r .rule) 0 e))
-    go (inr d) = inr (sym (a .outcome) ∙ ap (λ b. cond b (moved (view (r .state))) (broke (r .rule))) (ne-eqb (r .rule) 0 d), a .kept d)
+module _ {after : State} {who rule : ℕ} {s : State} {r : records.Record} (a : Answers after who rule s r) where
+  pub answers-moved : rule ≡ 0 → step (planOf (s .machine)) (view s) r ≡ moved (view after)
+  answers-moved e = sym (a .outcome) ∙ ap (λ b. cond b (moved (view after)) (broke rule)) (eq-eqb rule 0 e)
+
+  pub answers-broke : rule ≢ 0 → step (planOf (s .machine)) (view s) r ≡ broke rule
+  answers-broke d = sym (a .outcome) ∙ ap (λ b. cond b (moved (view after)) (broke rule)) (ne-eqb rule 0 d)

@@ -24,7 +24,7 @@ use Rattle.plan.proofs.Laws.{threads-view}
 use Rattle.machine.specs.declared.Machine.{Machine}
 use Rattle.machine.specs.Lists.{queued, held}
 use Rattle.machine.specs.View.{planOf, idle}
-use Rattle.machine.specs.Contracts.{Creates, Runs, Takes, Gives}
+use Rattle.machine.proofs.Admitted.{Creates, Runs, Takes, Gives}
 use Rattle.machine.proofs.Facts.{Facts, facts}
 use Rattle.machine.proofs.Views.{length-queued, length-held}
 

@@ -13,12 +13,14 @@ use Rattle.model.specs.Records.{Report, Switch}
 use Rattle.model.specs.Priorities.{greatestHold, current, chosen}
 use Rattle.model.specs.Calls.{switch}
 use Rattle.model.proofs.Tests.{split, is-true, is-false, same-eq, same-refl}
+use Rattle.model.proofs.Nesting.{chosen-is}
 use Rattle.machine.specs.declared.reports.Reports.{Reports}
 use Rattle.machine.specs.declared.Machine.{Machine}
 use Rattle.machine.specs.declared.calls.Called.{Called}
 use Rattle.machine.specs.Lists.{threadOf, numbered, owed}
 use Rattle.machine.specs.View.{planOf, viewed, idle}
-use Rattle.machine.specs.Contracts.{Unswitched}
+use Rattle.machine.specs.Contracts.{reportsOf}
+use Rattle.machine.specs.Steps.{Settles}
 use Rattle.machine.proofs.Views.{numbered-threadOf, threadOf-numbered}
 
 -- who is chosen does not depend on what is due
@@ -40,19 +42,25 @@ module _ (p : Plan) (st : State) where
       go (inl t) = absurd (d (same-eq (lastReported st) (chosen p st) t))
       go (inr f) = ap (λ b. cond b st (st ▷ owe (Switch (chosen p st) ∷ []))) (is-false (same (lastReported st) (chosen p st)) f)
 
-module _ (c : Called) (who : ℕ) (u : Unswitched c who) where
-  named : threadOf who ≡ chosen (planOf (c .machine)) (viewed (c .machine) (owed (c .reports)))
+-- after a call, where this is the number of the chosen thread
+module _ (c : Called) {ceilings : List ℕ} (settles : Settles c ceilings) (who : ℕ) (is-chosen : who ≡ numbered (chosen (planOf (c .machine)) (idle (c .machine)))) where
+  abbrev left : State
+  left = viewed (c .machine) (owed (reportsOf c))
+
+  named : threadOf who ≡ chosen (planOf (c .machine)) left
   named =
-      let o = chosen (planOf (c .machine)) (idle (c .machine)) in
-      ap threadOf (u .chosen') ∙ threadOf-numbered o (λ t e. omega (arith, u .known t e)) ∙ sym (chosen-due (planOf (c .machine)) (c .machine) (owed (c .reports)))
+      let p = planOf (c .machine) in
+      let o = chosen p (idle (c .machine)) in
+      ap threadOf is-chosen
+      ∙ threadOf-numbered o (λ t e. omega (arith, settles .chooses .listed .known t (chosen-is p (idle (c .machine)) t e .0)))
+      ∙ sym (chosen-due p (c .machine) (owed (reportsOf c)))
 
   -- the number is the one last reported
-  pub unswitched : who ≡ c .machine .reported → viewed (c .machine) (owed (c .reports)) ≡ switch (planOf (c .machine)) (viewed (c .machine) (owed (c .reports)))
-  unswitched e = sym (switch-none (planOf (c .machine)) (viewed (c .machine) (owed (c .reports))) (u .last ∙ ap threadOf (sym e) ∙ named))
+  pub unswitched : who ≡ c .machine .reported → left ≡ switch (planOf (c .machine)) left
+  unswitched e = sym (switch-none (planOf (c .machine)) left (settles .last ∙ ap threadOf (sym e) ∙ named))
 
   -- it is not, and the Switch stands last
-  pub switched : (who ≡ c .machine .reported → ⊥) → (rs : Reports) → owed rs ≡ owed (c .reports) ++ (Switch (threadOf who) ∷ [])
-      → viewed (c .machine) (owed rs) ≡ switch (planOf (c .machine)) (viewed (c .machine) (owed (c .reports)))
+  pub switched : (who ≡ c .machine .reported → ⊥) → (rs : Reports) → owed rs ≡ owed (reportsOf c) ++ (Switch (threadOf who) ∷ []) → viewed (c .machine) (owed rs) ≡ switch (planOf (c .machine)) left
   switched d rs e =
-      ap (viewed (c .machine)) (e ∙ ap (λ o. owed (c .reports) ++ (Switch o ∷ [])) named)
-      ∙ sym (switch-due (planOf (c .machine)) (viewed (c .machine) (owed (c .reports))) (λ q. d (sym (sym (numbered-threadOf (c .machine .reported)) ∙ ap numbered (sym (u .last) ∙ q ∙ sym named) ∙ numbered-threadOf who))))
+      ap (viewed (c .machine)) (e ∙ ap (λ o. owed (reportsOf c) ++ (Switch o ∷ [])) named)
+      ∙ sym (switch-due (planOf (c .machine)) left (λ q. d (sym (sym (numbered-threadOf (c .machine .reported)) ∙ ap numbered (sym (settles .last) ∙ q ∙ sym named) ∙ numbered-threadOf who))))

@@ -3,24 +3,29 @@ use mathlib.Core.Path.{_≡_}
 use mathlib.Core.Bool.{Bool, cond, not, _&&_}
 use mathlib.Core.List.{List, map, List·Memᴰ as Mem}
 use mathlib.Core.Option.{Option, some, Option·map}
-use Prim.Native.Nat.{ℕ, max, _≤_, _<_}
+use Prim.Native.Nat.{ℕ, _+_, max, _≤_, _<_}
 use lib.Dec.{T, eqb}
+use lib.ListN.{getD}
 use Rattle.model.specs.Searches.{any, firstGreatest, greatest, same, upTo}
 use Rattle.model.specs.Plan as plan
 use Rattle.model.specs.State as state
-use Rattle.model.specs.State.{dormant, condition, lastReported}
 use Rattle.model.specs.Priorities.{chosen}
-use Rattle.model.specs.Calls.{switch}
-use Rattle.model.specs.Rules.{holdsNot, lastTaken}
+use Rattle.model.specs.Records as records
+use Rattle.model.specs.Calls.{perform}
+use Rattle.model.specs.Rules.{broken}
 use Rattle.model.specs.Formed.{formed, lastTick}
 use Rattle.plan.specs.View as plans
 use Rattle.plan.specs.declared.Plan.{Plan}
 use Rattle.machine.specs.declared.queue.Queue.{Queue}
 use Rattle.machine.specs.declared.holds.Holds.{Holds}
 use Rattle.machine.specs.declared.Machine.{Machine}
+use Rattle.machine.specs.declared.slots.Slot.{Slot}
 use Rattle.machine.specs.declared.calls.Called.{Called}
-use Rattle.machine.specs.Lists.{numbered, threadOf, queued, owed, ceilingIn}
-use Rattle.machine.specs.View.{planOf, viewed, idle}
+use Rattle.machine.specs.declared.reports.Reports.{Reports}
+use Rattle.machine.specs.declared.reports.Report.{Report}
+use Rattle.machine.specs.Lists.{numbered, threadOf, queued, reportOf, owed, ceilingIn}
+use Rattle.machine.specs.View.{conditionOf, noSlot, planOf, viewed, idle}
+use Rattle.machine.specs.Rules.{ruleNumber}
 
 -- owner, current priority and chosen thread from the parts that they are read from
 
@@ -63,32 +68,24 @@ pub record Starts (r : Machine) (p : Plan) : Type 0 where
   pub plan' : r .plan ≡ p
   pub seen : idle r ≡ state.start (plans.view p)
 
-pub record Creates (m : Machine) (thread : ℕ) : Type 0 where
+-- What the calls ask, each of a well-formed machine with nothing due. The caller is the number of the chosen thread, 255 where there is none.
+
+pub record CreateAsked (m : Machine) (thread : ℕ) : Type 0 where
   pub formed : Formed m
   pub known : thread < m .plan .threads
-  pub dormant' : condition (idle m) thread ≡ dormant
+
+pub record Asked (m : Machine) (caller : ℕ) : Type 0 where
+  pub formed : Formed m
+  pub caller' : caller ≡ numbered (chosen (planOf m) (idle m))
+
+pub record SectionAsked (m : Machine) (caller section : ℕ) : Type 0 where
+  pub asked : Asked m caller
+  pub known : section < m .plan .sections
 
 -- the tick number has room to grow: a Tick at the last one has the answer 13
 pub record Ticks (m : Machine) : Type 0 where
   pub formed : Formed m
   pub room : m .tick .0 < lastTick
-
--- the caller is the chosen thread
-pub record Runs (m : Machine) (caller : ℕ) : Type 0 where
-  pub formed : Formed m
-  pub chosen' : chosen (planOf m) (idle m) ≡ some caller
-
--- rules 25 and 26
-pub record Takes (m : Machine) (caller section : ℕ) : Type 0 where
-  pub runs : Runs m caller
-  pub known : section < m .plan .sections
-  pub needs : T (plan.mayTake (planOf m) caller section)
-  pub lacks : T (holdsNot (idle m .holds) section caller)
-
--- rule 27
-pub record Gives (m : Machine) (caller section : ℕ) : Type 0 where
-  pub runs : Runs m caller
-  pub last : lastTaken (idle m .holds) caller ≡ some section
 
 -- what finding the chosen thread asks: the plan passes, and the lists are within their arrays
 pub record Chooses (m : Machine) (ceilings : List ℕ) : Type 0 where
@@ -96,18 +93,33 @@ pub record Chooses (m : Machine) (ceilings : List ℕ) : Type 0 where
   pub listed : Listed (m .plan .threads) (m .queue) (m .holds) (m .waits)
   pub ceilings' : Ceilings m ceilings
 
--- what a call hands back stands for this state, the reports being those due in it; the plan is the one that came
-pub record Meets (r : Called) (m : Machine) (st : state.State) : Type 0 where
+-- the reports that a call hands back
+abbrev pub reportsOf : Called → Reports
+reportsOf c = record { items = c .reports; count = c .count }
+
+-- The first broken rule, 0 if there is none; then the machine and its reports stand for what the model's call makes, or for the machine as it
+-- came, with nothing due.
+pub record Makes (r : Called) (m : Machine) (k : records.Call) : Type 0 where
   pub plan' : r .machine .plan ≡ m .plan
-  pub seen : viewed (r .machine) (owed (r .reports)) ≡ st
+  pub rule' : r .rule ≡ ruleNumber (broken (planOf m) (idle m) (records.call k))
+  pub made : r .rule ≡ 0 → viewed (r .machine) (owed (reportsOf r)) ≡ perform (planOf m) k (idle m)
+  pub kept : (r .rule ≡ 0 → ⊥) → viewed (r .machine) (owed (reportsOf r)) ≡ idle m
 
--- the Switch is still to be asked about, and there is room for it
-pub record Unswitched (c : Called) (who : ℕ) : Type 0 where
-  pub room : c .reports .count < 17
-  pub known : (t : ℕ) → chosen (planOf (c .machine)) (idle (c .machine)) ≡ some t → t < 16
-  pub chosen' : who ≡ numbered (chosen (planOf (c .machine)) (idle (c .machine)))
-  pub last : lastReported (viewed (c .machine) (owed (c .reports))) ≡ threadOf (c .machine .reported)
+-- no sleeper wakes before this tick number
+pub record Quiet (threads : ℕ) (slots : List Slot) (until : ℕ) : Type 0 where
+  pub asleep' : (t n : ℕ) → t < threads → conditionOf (getD slots t noSlot) ≡ state.asleep n → until ≤ n
 
-pub record Switches (r c : Called) : Type 0 where
-  pub machine : r .machine ≡ c .machine
-  pub seen : viewed (r .machine) (owed (r .reports)) ≡ switch (planOf (c .machine)) (viewed (c .machine) (owed (c .reports)))
+-- a report given: a Switch given names the thread reported
+pub record Told (r c : Called) (given : Report) : Type 0 where
+  pub plan' : r .machine .plan ≡ c .machine .plan
+  pub slots' : r .machine .slots ≡ c .machine .slots
+  pub reports' : reportsOf r ≡ reportsOf c
+  pub seen : (due : List records.Report) → viewed (r .machine) due ≡ state.setReported (state.switchedTo (threadOf (c .machine .reported)) (reportOf given)) (viewed (c .machine) due)
+
+-- a Tick that wakes nobody
+pub record Passes (r c : Called) : Type 0 where
+  pub plan' : r .machine .plan ≡ c .machine .plan
+  pub reports' : reportsOf r ≡ reportsOf c
+  pub slots' : r .machine .slots ≡ c .machine .slots
+  pub reported' : r .machine .reported ≡ c .machine .reported
+  pub seen : (due : List records.Report) → viewed (r .machine) due ≡ state.setTickNumber (c .machine .tick .0 + 1) (viewed (c .machine) due)

@@ -1,6 +1,7 @@
 -- The rules as the code asks them: from the parts that each reads, as a number, 0 where the answer is Yes.
 use mathlib.Core.Bool.{cond}
 use mathlib.Core.List.{List}
+use mathlib.Core.Option.{Option, none, some}
 use Prim.Native.Nat.{ℕ}
 use lib.Dec.{eqb}
 use lib.ListN.{getD}
@@ -11,6 +12,11 @@ use Rattle.machine.specs.declared.reports.Report.{Report}
 use Rattle.machine.specs.declared.slots.Slot.{Slot}
 use Rattle.machine.specs.Lists.{numbered, held}
 use Rattle.machine.specs.View.{conditionOf, noSlot}
+
+-- a rule as a number: 0 if none is broken
+abbrev pub ruleNumber : Option ℕ → ℕ
+ruleNumber none = 0
+ruleNumber (some n) = n
 
 abbrev pub runRule : (chosen : ℕ) → ℕ
 runRule x = cond (eqb x 255) 22 0

@@ -1,16 +1,22 @@
-// What each call does. A method takes the machine by value and hands it back with the reports that the call makes due.
+// What each call does. A method takes the machine by value, with nothing due, and hands it back with the reports that the call makes due, or
+// with the rule that it breaks.
 ghost use mathlib.Core.Path.{_≡_};
-ghost use Prim.Native.Nat.{_<_};
+ghost use mathlib.Core.Bool.{_&&_};
+ghost use Prim.Native.Nat.{_+_, _≤_, _<_};
+ghost use lib.Dec.{eqb, ltb};
+ghost use Rattle.model.specs.Records as records;
 ghost use Rattle.model.specs.Priorities.{chosen};
-ghost use Rattle.model.specs.Calls.{create, tick, delay, relinquish, end, take, give, switch};
+ghost use Rattle.model.specs.Formed.{lastTick};
 ghost use Rattle.machine.specs.Lists.{numbered};
 ghost use Rattle.machine.specs.View.{planOf, idle};
-ghost use Rattle.machine.specs.Contracts.{Starts, Creates, Ticks, Runs, Takes, Gives, Ceilings, Chooses, Meets, Unswitched, Switches};
+ghost use Rattle.machine.specs.Contracts.{Starts, CreateAsked, Ticks, Asked, SectionAsked, Ceilings, Chooses, Makes, Told, Passes, Quiet};
 use crate::Machine;
 use crate::choice;
 use crate::holds::Holds;
 use crate::queue::Queue;
+use crate::reports::Report;
 use crate::reports::Reports;
+use crate::rules;
 use crate::slots;
 use crate::slots::Slot;
 use crate::time::Tick;
@@ -18,9 +24,49 @@ use crate::time::Wait;
 use plan::Plan;
 use plan::lookup::base;
 
+// The reports that a call makes due, and the rule that it breaks, 0 if there is none; a broken rule leaves the machine as it came.
 pub struct Called {
     pub machine: Machine,
-    pub reports: Reports,
+    pub reports: [Report; 17],
+    pub count: usize,
+    pub rule: u8,
+}
+
+impl Called {
+    // A Switch given names the thread reported.
+    pub fn told(self, given: Report) -> Called
+        ensures { λ r. ⌜ Told r self given ⌝ }
+    {
+        let mut c = self;
+        if given.kind == 17 {
+            c.machine.reported = given.who;
+        }
+        c
+    }
+
+    // A Tick at which nobody wakes: the tick number grows, and nothing else changes.
+    pub fn passed(self) -> Called
+        requires { ⌜ self .machine .tick .0 < lastTick ⌝ }
+        ensures { λ r. ⌜ Passes r self ⌝ }
+    {
+        let mut c = self;
+        let m = c.machine;
+        let now = m.tick;
+        let number = now.next();
+        c.machine.tick.0 = number.0;
+        c
+    }
+
+    // Whether the next Tick wakes nobody and makes no Switch due, where nobody wakes before this tick number.
+    pub fn is_quiet(self, until: u32, chosen: u8) -> bool
+        requires { ⌜ self .machine .tick .0 < lastTick ⌝ }
+        ensures { λ r. ⌜ r ≡ ltb (self .machine .tick .0 + 1) until && eqb chosen (self .machine .reported) ⌝ }
+    {
+        let m = self.machine;
+        let now = m.tick;
+        let number = now.next();
+        number.0 < until && chosen == m.reported
+    }
 }
 
 impl Machine {
@@ -42,28 +88,34 @@ impl Machine {
 
     // Create: see model, Calls.create.
     pub fn create(self, thread: u8) -> Called
-        requires { ⌜ Creates self thread ⌝ }
-        ensures { λ r. ⌜ Meets r self (create thread (idle self)) ⌝ }
+        requires { ⌜ CreateAsked self thread ⌝ }
+        ensures { λ r. ⌜ Makes r self (records.Create thread) ⌝ }
     {
         let mut m = self;
+        let mut rs = Reports::none();
         let s = m.slots;
-        let s2 = slots::placed(s, thread, 1, 0);
-        m.slots = s2;
-        let q = m.queue;
-        let q2 = q.push(thread);
-        m.queue = q2;
-        let none = Reports::none();
-        let rs = none.push(16, thread);
+        let rule = rules::create_rule(s, thread);
+        if rule == 0 {
+            let s2 = slots::placed(s, thread, 1, 0);
+            m.slots = s2;
+            let q = m.queue;
+            let q2 = q.push(thread);
+            m.queue = q2;
+            rs = rs.push(16, thread);
+        }
+        let reports = rs.items;
         Called {
             machine: m,
-            reports: rs,
+            reports,
+            count: rs.count,
+            rule,
         }
     }
 
     // Tick: see model, Calls.tick.
     pub fn tick(self) -> Called
         requires { ⌜ Ticks self ⌝ }
-        ensures { λ r. ⌜ Meets r self (tick (idle self)) ⌝ }
+        ensures { λ r. ⌜ Makes r self records.Tick ⌝ }
     {
         let mut m = self;
         let p = m.plan;
@@ -87,111 +139,143 @@ impl Machine {
         m.tick = number;
         m.slots = slots;
         m.queue = queue;
+        let reports = rs.items;
         Called {
             machine: m,
-            reports: rs,
+            reports,
+            count: rs.count,
+            rule: 0,
         }
     }
 
     // Delay: see model, Calls.delay.
     pub fn delay(self, caller: u8, wait: Wait) -> Called
-        requires { ⌜ Runs self caller ⌝ }
-        ensures { λ r. ⌜ Meets r self (delay caller (wait .0) (idle self)) ⌝ }
+        requires { ⌜ Asked self caller ⌝ }
+        ensures { λ r. ⌜ Makes r self (records.Delay (wait .0)) ⌝ }
     {
         let mut m = self;
-        let now = m.tick;
-        let until = now.after(wait);
-        let s = m.slots;
-        let s2 = slots::placed(s, caller, 2, until.0);
-        m.slots = s2;
-        let q = m.queue;
-        let q2 = q.without(caller);
-        m.queue = q2;
+        let h = m.holds;
+        let rule = rules::free_rule(h, caller);
+        if rule == 0 {
+            let now = m.tick;
+            let until = now.after(wait);
+            let s = m.slots;
+            let s2 = slots::placed(s, caller, 2, until.0);
+            m.slots = s2;
+            let q = m.queue;
+            let q2 = q.without(caller);
+            m.queue = q2;
+        }
+        let rs = Reports::none();
+        let reports = rs.items;
         Called {
             machine: m,
-            reports: Reports::none(),
+            reports,
+            count: rs.count,
+            rule,
         }
     }
 
     // Relinquish: see model, Calls.relinquish.
     pub fn relinquish(self, ceilings: &[u8; 16], caller: u8) -> Called
-        requires { ⌜ Runs self caller × Ceilings self (now ceilings) ⌝ }
-        ensures { λ r. ⌜ Meets r self (relinquish (planOf self) caller (idle self)) ⌝ }
+        requires { ⌜ Asked self caller × Ceilings self (now ceilings) ⌝ }
+        ensures { λ r. ⌜ Makes r self records.Relinquish ⌝ }
     {
         let mut m = self;
         let mut rs = Reports::none();
-        let p = m.plan;
-        let b = p.bases;
-        let q = m.queue;
-        let h = m.holds;
-        let w = m.waits;
-        if choice::rivalled_of(p.threads, b, ceilings, q, h, w, caller) {
-            let q2 = q.without(caller);
-            let q3 = q2.push(caller);
-            m.queue = q3;
-            rs = rs.push(20, caller);
+        let rule = rules::run_rule(caller);
+        if rule == 0 {
+            let p = m.plan;
+            let b = p.bases;
+            let q = m.queue;
+            let h = m.holds;
+            let w = m.waits;
+            if choice::rivalled_of(p.threads, b, ceilings, q, h, w, caller) {
+                let q2 = q.without(caller);
+                let q3 = q2.push(caller);
+                m.queue = q3;
+                rs = rs.push(20, caller);
+            }
         }
+        let reports = rs.items;
         Called {
             machine: m,
-            reports: rs,
+            reports,
+            count: rs.count,
+            rule,
         }
     }
 
     // End: see model, Calls.end.
     pub fn end(self, caller: u8) -> Called
-        requires { ⌜ Runs self caller ⌝ }
-        ensures { λ r. ⌜ Meets r self (end caller (idle self)) ⌝ }
+        requires { ⌜ Asked self caller ⌝ }
+        ensures { λ r. ⌜ Makes r self records.End ⌝ }
     {
         let mut m = self;
-        let s = m.slots;
-        let s2 = slots::placed(s, caller, 0, 0);
-        m.slots = s2;
-        let q = m.queue;
-        let q2 = q.without(caller);
-        m.queue = q2;
+        let h = m.holds;
+        let rule = rules::free_rule(h, caller);
+        if rule == 0 {
+            let s = m.slots;
+            let s2 = slots::placed(s, caller, 0, 0);
+            m.slots = s2;
+            let q = m.queue;
+            let q2 = q.without(caller);
+            m.queue = q2;
+        }
+        let rs = Reports::none();
+        let reports = rs.items;
         Called {
             machine: m,
-            reports: Reports::none(),
+            reports,
+            count: rs.count,
+            rule,
         }
     }
 
     // Take: see model, Calls.take.
     pub fn take(self, ceilings: &[u8; 16], caller: u8, section: u8) -> Called
-        requires { ⌜ Takes self caller section × Ceilings self (now ceilings) ⌝ }
-        ensures { λ r. ⌜ Meets r self (take (planOf self) caller section (idle self)) ⌝ }
+        requires { ⌜ SectionAsked self caller section × Ceilings self (now ceilings) ⌝ }
+        ensures { λ r. ⌜ Makes r self (records.Take section) ⌝ }
     {
         let mut m = self;
         let mut rs = Reports::none();
         let p = m.plan;
         let bases = p.bases;
+        let needs = p.needs;
         let h = m.holds;
-        let b = base(p.threads, bases, caller);
-        if h.clear(ceilings, caller, b) {
-            let h2 = h.push(section, caller);
-            m.holds = h2;
-            rs = rs.push(18, caller);
-        } else {
-            let q = m.queue;
-            let q2 = q.without(caller);
-            m.queue = q2;
-            let s = m.slots;
-            let s2 = slots::placed(s, caller, 3, section as u32);
-            m.slots = s2;
-            let w = m.waits;
-            let w2 = w.push(caller);
-            m.waits = w2;
-            rs = rs.push(19, caller);
+        let rule = rules::take_rule(p.threads, needs, h, caller, section);
+        if rule == 0 {
+            let b = base(p.threads, bases, caller);
+            if h.clear(ceilings, caller, b) {
+                let h2 = h.push(section, caller);
+                m.holds = h2;
+                rs = rs.push(18, caller);
+            } else {
+                let q = m.queue;
+                let q2 = q.without(caller);
+                m.queue = q2;
+                let s = m.slots;
+                let s2 = slots::placed(s, caller, 3, section as u32);
+                m.slots = s2;
+                let w = m.waits;
+                let w2 = w.push(caller);
+                m.waits = w2;
+                rs = rs.push(19, caller);
+            }
         }
+        let reports = rs.items;
         Called {
             machine: m,
-            reports: rs,
+            reports,
+            count: rs.count,
+            rule,
         }
     }
 
     // Give: see model, Calls.give.
     pub fn give(self, ceilings: &[u8; 16], caller: u8, section: u8) -> Called
-        requires { ⌜ Gives self caller section × Ceilings self (now ceilings) ⌝ }
-        ensures { λ r. ⌜ Meets r self (give (planOf self) caller section (idle self)) ⌝ }
+        requires { ⌜ SectionAsked self caller section × Ceilings self (now ceilings) ⌝ }
+        ensures { λ r. ⌜ Makes r self (records.Give section) ⌝ }
     {
         let mut m = self;
         let mut rs = Reports::none();
@@ -199,10 +283,11 @@ impl Machine {
         let bases = p.bases;
         let h = m.holds;
         let w = m.waits;
-        let mut h2 = h.without(section, caller);
-        let heir = choice::find_heir(p.threads, bases, ceilings, w, h2);
-        let t = heir.who;
-        if t != 255 {
+        let rule = rules::give_rule(h, caller, section);
+        if rule == 0 {
+            let mut h2 = h.without(section, caller);
+            let heir = choice::find_heir(p.threads, bases, ceilings, w, h2);
+            let t = heir.who;
             if heir.free {
                 let s = m.slots;
                 h2 = h2.push(slots::wanted(s, t), t);
@@ -215,14 +300,17 @@ impl Machine {
                 m.queue = q2;
                 rs = rs.push(18, t);
                 rs = rs.push(16, t);
-            } else {
+            } else if t != 255 {
                 rs = rs.push(19, t);
             }
+            m.holds = h2;
         }
-        m.holds = h2;
+        let reports = rs.items;
         Called {
             machine: m,
-            reports: rs,
+            reports,
+            count: rs.count,
+            rule,
         }
     }
 
@@ -238,23 +326,18 @@ impl Machine {
         let w = self.waits;
         choice::chosen_of(p.threads, b, ceilings, q, h, w)
     }
-}
 
-impl Called {
-    // After each call, where this thread is chosen: see model, Calls.switch.
-    pub fn switch(self, chosen: u8) -> Called
-        requires { ⌜ Unswitched self chosen ⌝ }
-        ensures { λ r. ⌜ Switches r self ⌝ }
+    // The tick number up to which Ticks wake nobody, 0 where that is not known.
+    pub fn quiet_until(self, kind: u8) -> u32
+        requires { ⌜ self .plan .threads ≤ 16 ⌝ }
+        ensures { λ r. ⌜ Quiet (self .plan .threads) (self .slots) r ⌝ }
     {
-        let m = self.machine;
-        let rs = self.reports;
-        let mut rs2 = self.reports;
-        if chosen != m.reported {
-            rs2 = rs.push(17, chosen);
-        }
-        Called {
-            machine: m,
-            reports: rs2,
+        let s = self.slots;
+        let p = self.plan;
+        if kind == 7 {
+            slots::soonest(s, p.threads)
+        } else {
+            0
         }
     }
 }

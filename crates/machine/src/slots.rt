@@ -7,6 +7,7 @@ ghost use Rattle.model.specs.Calls.{sleepsUntil, wanted};
 ghost use Rattle.model.specs.Rules.{isDormant};
 ghost use Rattle.model.specs.Formed.{conditionInRange, inQueue, inWaits};
 ghost use Rattle.machine.specs.View.{conditionOf, noSlot, conditionsOf};
+ghost use Rattle.machine.specs.Contracts.{Quiet};
 use crate::time::LAST_WAKE;
 use crate::time::Tick;
 
@@ -100,4 +101,21 @@ pub(crate) fn in_range(slots: [Slot; 16], threads: usize, sections: usize) -> bo
         t += 1;
     }
     true
+}
+
+// A tick number before which no sleeper wakes.
+pub(crate) fn soonest(slots: [Slot; 16], threads: usize) -> u32
+    requires { ⌜ threads ≤ 16 ⌝ }
+    ensures { λ r. ⌜ Quiet threads slots r ⌝ }
+{
+    let mut first: u32 = LAST_WAKE;
+    let mut t: usize = 0;
+    while t < threads {
+        let s = slots[t];
+        if s.state == 2 && s.value < first {
+            first = s.value;
+        }
+        t += 1;
+    }
+    first
 }

@@ -2,8 +2,9 @@
 ghost use mathlib.Core.Path.{_≡_};
 ghost use lib.ListN.{length};
 ghost use Rattle.machine.specs.View.{view};
-ghost use Rattle.machine.specs.Steps.{Fresh, Owes, FirstDue, Delivers};
+ghost use Rattle.machine.specs.Steps.{Fresh, Owes, FirstDue, Delivers, stateOf};
 use crate::Machine;
+use crate::calls::Called;
 use crate::reports::Report;
 use crate::reports::Reports;
 use plan::Plan;
@@ -63,6 +64,39 @@ impl State {
             machine: m,
             due,
             given: n + 1,
+        }
+    }
+
+    // Its parts side by side, to be walked on from.
+    pub fn opened(self) -> Called
+        ensures { λ r. ⌜ r ≡ record { machine = self .machine; reports = self .due .items; count = self .due .count; rule = 0 } ⌝ }
+    {
+        let machine = self.machine;
+        let due = self.due;
+        let reports = due.items;
+        Called {
+            machine,
+            reports,
+            count: due.count,
+            rule: 0,
+        }
+    }
+}
+
+impl Called {
+    // The state again, with so many reports given.
+    pub fn closed(self, given: usize) -> State
+        ensures { λ r. ⌜ r ≡ stateOf self given ⌝ }
+    {
+        let machine = self.machine;
+        let items = self.reports;
+        State {
+            machine,
+            due: Reports {
+                items,
+                count: self.count,
+            },
+            given,
         }
     }
 }

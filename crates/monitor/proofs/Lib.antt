@@ -1,6 +1,8 @@
 -- What holds of the watch, and the laws that its proofs share. Laws is what other crates may cite.
 pub mod Walking
 pub mod Checking
+pub mod Turns
+pub mod Singles
 pub mod Lending
 pub mod Passed
 pub mod Promised

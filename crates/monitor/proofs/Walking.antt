@@ -1,7 +1,6 @@
 -- A walk over records, turn by turn: what its loop keeps, that every step on the way may be taken, and that it ends where the run does.
 use mathlib.Core.Path.{_≡_, refl, ap, sym, subst, _∙_}
 use mathlib.Core.Logic.{_⊎_, inl, inr, _≢_}
-use mathlib.Core.Bool.{cond}
 use mathlib.Core.List.{List, [], _∷_, map}
 use mathlib.Core.Option.{some}
 use Prim.Native.Nat.{ℕ, suc, _+_, _-_, _≤_, _<_}
@@ -27,17 +26,13 @@ use Rattle.plan.specs.View as plans
 use Rattle.plan.specs.declared.Plan.{Plan}
 use Rattle.plan.proofs.Loops.{left, begin, turn, done}
 use Rattle.plan.proofs.Laws.{threads-view, valid-fits}
-use Rattle.machine.specs.declared.rules.Record.{Record}
 use Rattle.machine.specs.declared.state.State.{State}
-use Rattle.machine.specs.declared.step.Stepped.{Stepped}
 use Rattle.machine.specs.Lists.{numbered}
 use Rattle.machine.specs.View.{planOf, view}
-use Rattle.machine.specs.Steps as machine
 use Rattle.machine.specs.Steps.{Steps, Answers}
-use Rattle.machine.proofs.Laws.{stands-formed, ceilings-of}
+use Rattle.machine.proofs.Laws.{stands-formed, ceilings-of, answers-moved, answers-broke}
 use Rattle.dump.specs.Layout.{recordCount, kindAt, operandAt, recordOf, decode, kindOf}
 use Rattle.dump.specs.Questions.{operandFits}
-use Rattle.dump.specs.Reading.{Reads}
 use Rattle.dump.proofs.Laws.{fits-kind, kind-back, allowed-back}
 use Rattle.dump.proofs.Laws.{wider}
 use Rattle.dump.proofs.Laws.{entryAt}
@@ -81,14 +76,6 @@ ticks-on p st st' r b e =
     let c = reached-invariant p st b .sound in
     omega (arith, tick-counts p st c (moves p st c r st' e), tick-most r)
 
--- what a step answers, by the rule that it names
-module _ (y : Stepped) (s : State) (x : Record) (a : Answers y s x) where
-  stepped-moved : y .rule ≡ 0 → step (planOf (s .machine)) (view s) (machine.recordOf x) ≡ moved (view (y .state))
-  stepped-moved e = sym (a .outcome) ∙ ap (λ b. cond b (moved (view (y .state))) (broke (y .rule))) (eq-eqb (y .rule) 0 e)
-
-  stepped-broke : y .rule ≢ 0 → step (planOf (s .machine)) (view s) (machine.recordOf x) ≡ broke (y .rule)
-  stepped-broke d = sym (a .outcome) ∙ ap (λ b. cond b (moved (view (y .state))) (broke (y .rule))) (ne-eqb (y .rule) 0 d)
-
 -- Before record i of a walk from a state `first`: the records left lead from here where all of them lead from there.
 pub record Walking (first : State) (bytes : List ℕ) (s : State) (who i : ℕ) : Type 0 where
   pub plan' : s .machine .plan ≡ first .machine .plan
@@ -115,12 +102,12 @@ module _ {first : State} {ceilings : List ℕ} {who₀ : ℕ} {bytes : List ℕ}
 
   module _ {s : State} {who i : ℕ} (w : Walking first bytes s who i) where
     -- behind the last record
-    pub walk-ends : {rule : ℕ} → rule ≡ 0 → n ≤ i → WalkEnds (record { state = s; at = i; rule = rule }) first bytes
+    pub walk-ends : {rule : ℕ} → rule ≡ 0 → n ≤ i → WalkEnds (record { state = s; chosen = who; at = i; rule = rule }) first bytes
     walk-ends {rule} e h =
         let z = sym (finish-ended (planOf (s .machine)) i (view s))
         ∙ sym (done (λ l. finish (planOf (s .machine)) i (map (entryAt bytes) l) (view s)) (recordCount bytes) i (omega (arith, a .count)))
         ∙ w .leads in
-        record { plan' = w .plan'; verdict = rw (eq-eqb rule 0 e) (ap (λ f. f .0) z); state' = ap (λ f. f .1) z; kept = w .kept }
+        record { plan' = w .plan'; verdict = rw (eq-eqb rule 0 e) (ap (λ f. f .0) z); state' = ap (λ f. f .1) z; chosen' = w .chosen' ∙ ap (λ (q : Plan). numbered (chosen (plans.view q) (view s))) (w .plan') }
 
     -- at record i
     module _ (h : i < n) where
@@ -163,61 +150,64 @@ module _ {first : State} {ceilings : List ℕ} {who₀ : ℕ} {bytes : List ℕ}
             let f = valid-fits (s .machine .plan) valid in
             rw (o .0, o .1) (wider (s .machine .plan .threads) (s .machine .plan .sections) 16 16 (kindAt bytes i) (operandAt bytes i) (f .threads) (f .sections) fits)
 
-        module _ {x : Record} (r : Reads x kind operand) where
-          is : machine.recordOf x ≡ entryAt bytes i
-          is = r .same ∙ rw (o .0, o .1)
+        -- it is record i
+        pub walk-record : recordOf kind operand ≡ entryAt bytes i
+        walk-record = rw (o .0, o .1)
 
-          tick-kind : machine.recordOf x ≡ records.call records.Tick → kindAt bytes i ≡ 7
-          tick-kind t = sym (kind-back (kindAt bytes i) (operandAt bytes i) (fits-kind _ _ (kindAt bytes i) (operandAt bytes i) fits)) ∙ ap kindOf (sym is ∙ t)
+        pub walk-fits : T (operandFits (s .machine .plan .threads) (s .machine .plan .sections) kind operand)
+        walk-fits = rw (o .0, o .1) fits
 
-          -- and stepped over
-          pub walk-steps : Steps s ceilings who x
-          walk-steps =
-              record {
-                formed = formed-here;
-                ceilings' = ceilings-of (s .machine) (first .machine .plan) ceilings (w .plan') (a .ceilings');
-                chosen' = w .chosen';
-                kind = r .kind';
-                allowed = rw is allowed;
-                tick = λ t. room-here (tick-kind t);
-              }
+      -- and it may be stepped over
+      pub walk-steps : Steps s ceilings who (entryAt bytes i)
+      walk-steps =
+          record {
+            formed = formed-here;
+            ceilings' = ceilings-of (s .machine) (first .machine .plan) ceilings (w .plan') (a .ceilings');
+            chosen' = w .chosen';
+            allowed = allowed;
+            tick = λ t. room-here (sym (kind-back (kindAt bytes i) (operandAt bytes i) (fits-kind _ _ (kindAt bytes i) (operandAt bytes i) fits)) ∙ ap kindOf t);
+          }
 
-          module _ {y : Stepped} (b : Answers y s x) where
-            turned : finish (planOf (s .machine)) i (entryAt bytes i ∷ map (entryAt bytes) (left (i + 1) (recordCount bytes))) (view s) ≡ finish (planOf (first .machine)) 0 (decode bytes) (view first)
-            turned = sym (turn (λ l. finish (planOf (s .machine)) i (map (entryAt bytes) l) (view s)) (recordCount bytes) i below) ∙ w .leads
+      module _ {after : State} {who' rule : ℕ} (b : Answers after who' rule s (entryAt bytes i)) where
+        turned : finish (planOf (s .machine)) i (entryAt bytes i ∷ map (entryAt bytes) (left (i + 1) (recordCount bytes))) (view s) ≡ finish (planOf (first .machine)) 0 (decode bytes) (view first)
+        turned = sym (turn (λ l. finish (planOf (s .machine)) i (map (entryAt bytes) l) (view s)) (recordCount bytes) i below) ∙ w .leads
 
-            -- the record breaks a rule
-            pub walk-breaks : y .rule ≢ 0 → WalkEnds (record { state = y .state; at = i; rule = y .rule }) first bytes
-            walk-breaks d =
-                let same = b .kept d in
-                let z = sym (finish-broke (planOf (s .machine)) i (entryAt bytes i) _ (view s) (y .rule) (rw is at (stepped-broke y s x b d))) ∙ turned in
-                record { plan' = b .plan' ∙ w .plan'; verdict = rw (ne-eqb (y .rule) 0 d) (ap (λ f. f .0) z); state' = ap view same ∙ ap (λ f. f .1) z; kept = λ k. same ∙ w .kept k }
+        -- the record breaks a rule
+        pub walk-breaks : rule ≢ 0 → WalkEnds (record { state = after; chosen = who'; at = i; rule = rule }) first bytes
+        walk-breaks d =
+            let z = sym (finish-broke (planOf (s .machine)) i (entryAt bytes i) _ (view s) rule (answers-broke b d)) ∙ turned in
+            record {
+              plan' = b .plan' ∙ w .plan';
+              verdict = rw (ne-eqb rule 0 d) (ap (λ f. f .0) z);
+              state' = b .kept d ∙ ap (λ f. f .1) z;
+              chosen' = b .chosen' ∙ ap (λ (q : Plan). numbered (chosen (plans.view q) (view after))) (w .plan');
+            }
 
-            -- the record moves the machine
-            pub walk-moves : y .rule ≡ 0 → Walking first bytes (y .state) (y .chosen) (i + 1)
-            walk-moves k =
-                record {
-                  plan' = b .plan' ∙ w .plan';
-                  leads = ap (λ (p : model.Plan). finish p (i + 1) rest (view (y .state))) plan-same ∙ ap (λ j. finish (planOf (s .machine)) j rest (view (y .state))) (add-one i)
-                      ∙ sym (finish-moved (planOf (s .machine)) i (entryAt bytes i) rest (view s) (view (y .state)) moves-it) ∙ turned;
-                  chosen' = b .chosen' ∙ ap (λ (p : model.Plan). numbered (chosen p (view (y .state)))) (sym plan-same);
-                  kept = λ z. absurd (omega arith);
-                  safe = go (w .safe);
-                }
-              where
-                rest : List records.Record
-                rest = map (entryAt bytes) (left (i + 1) (recordCount bytes))
+        -- the record moves the machine
+        pub walk-moves : rule ≡ 0 → Walking first bytes after who' (i + 1)
+        walk-moves k =
+            record {
+              plan' = b .plan' ∙ w .plan';
+              leads = ap (λ (p : model.Plan). finish p (i + 1) rest (view after)) plan-same ∙ ap (λ j. finish (planOf (s .machine)) j rest (view after)) (add-one i)
+                  ∙ sym (finish-moved (planOf (s .machine)) i (entryAt bytes i) rest (view s) (view after) moves-it) ∙ turned;
+              chosen' = b .chosen' ∙ ap (λ (p : model.Plan). numbered (chosen p (view after))) (sym plan-same);
+              kept = λ z. absurd (omega arith);
+              safe = go (w .safe);
+            }
+          where
+            rest : List records.Record
+            rest = map (entryAt bytes) (left (i + 1) (recordCount bytes))
 
-                plan-same : planOf (y .state .machine) ≡ planOf (s .machine)
-                plan-same = ap plans.view (b .plan')
+            plan-same : planOf (after .machine) ≡ planOf (s .machine)
+            plan-same = ap plans.view (b .plan')
 
-                moves-it : step (planOf (s .machine)) (view s) (entryAt bytes i) ≡ moved (view (y .state))
-                moves-it = rw is at (stepped-moved y s x b k)
+            moves-it : step (planOf (s .machine)) (view s) (entryAt bytes i) ≡ moved (view after)
+            moves-it = answers-moved b k
 
-                go : Runs s (recordCount bytes - i) ⊎ Lent first bytes → Runs (y .state) (recordCount bytes - (i + 1)) ⊎ Lent first bytes
-                go (inl c) =
-                    inl (record {
-                      reached = subst (λ (p : model.Plan). Reached p (view (y .state))) (sym plan-same) (next (entryAt bytes i) (c .reached) allowed moves-it);
-                      room = omega (arith, c .room, below, ticks-on (planOf (s .machine)) (view s) (view (y .state)) (entryAt bytes i) (c .reached) moves-it);
-                    })
-                go (inr l) = inr l
+            go : Runs s (recordCount bytes - i) ⊎ Lent first bytes → Runs after (recordCount bytes - (i + 1)) ⊎ Lent first bytes
+            go (inl c) =
+                inl (record {
+                  reached = subst (λ (p : model.Plan). Reached p (view after)) (sym plan-same) (next (entryAt bytes i) (c .reached) allowed moves-it);
+                  room = omega (arith, c .room, below, ticks-on (planOf (s .machine)) (view s) (view after) (entryAt bytes i) (c .reached) moves-it);
+                })
+            go (inr l) = inr l

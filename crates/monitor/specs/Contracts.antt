@@ -3,8 +3,8 @@ use mathlib.Core.Path.{_≡_}
 use mathlib.Core.Logic.{_⊎_}
 use mathlib.Core.Bool.{false, cond}
 use mathlib.Core.List.{List, [], _∷_}
-use Prim.Native.Nat.{ℕ, _+_, _≤_, _<_}
-use lib.Dec.{T, eqb}
+use Prim.Native.Nat.{ℕ, _+_, _%_, _≤_, _<_}
+use lib.Dec.{T, eqb, ltb}
 use lib.ListN.{length}
 use Rattle.model.specs.Plan as model
 use Rattle.model.specs.Records as records
@@ -18,9 +18,12 @@ use Rattle.plan.specs.Bytes.{number}
 use Rattle.machine.specs.declared.state.State.{State}
 use Rattle.machine.specs.Lists.{numbered}
 use Rattle.machine.specs.View.{planOf, view}
+use Rattle.machine.specs.declared.reports.Report.{Report}
+use Rattle.machine.specs.Rules.{reportRule}
 use Rattle.machine.specs.Contracts.{Ceilings}
-use Rattle.dump.specs.Layout.{recordCount, kindAt, decode}
-use Rattle.dump.specs.Questions.{Whole, hasKinds, hasOperands}
+use Rattle.machine.specs.Steps.{Steps}
+use Rattle.dump.specs.Layout.{recordCount, kindAt, recordOf, decode}
+use Rattle.dump.specs.Questions.{kindAllowed, operandFits, Whole, hasKinds, hasOperands}
 use Rattle.monitor.specs.declared.walk.Walked.{Walked}
 use Rattle.monitor.specs.declared.live.Watch.{Watch}
 use Rattle.monitor.specs.declared.live.Begun.{Begun}
@@ -57,12 +60,22 @@ pub record Walks (s : State) (ceilings : List ℕ) (who : ℕ) (bytes : List ℕ
   pub operands : T (hasOperands (s .machine .plan .threads) (s .machine .plan .sections) bytes)
   pub safe : Runs s n ⊎ Lent s bytes
 
--- a walk ends where the run does, with its verdict; a state that no record moved is the one that came
+-- a walk ends where the run does, with its verdict
 pub record WalkEnds (r : Walked) (s : State) (bytes : List ℕ) : Type 0 where
   pub plan' : r .state .machine .plan ≡ s .machine .plan
   pub verdict : cond (eqb (r .rule) 0) (clean (r .at) (length (view (r .state) .due))) (breach (r .at) (r .rule)) ≡ run (planOf (s .machine)) 0 (decode bytes) (view s)
   pub state' : view (r .state) ≡ ends (planOf (s .machine)) (decode bytes) (view s)
-  pub kept : r .at ≡ 0 → r .state ≡ s
+  pub chosen' : r .chosen ≡ numbered (chosen (planOf (s .machine)) (view (r .state)))
+
+-- the rule that a record breaks, by its two numbers, where this report is due first: 21 of a call, 29 and 30 of a report
+abbrev pub dueRule : Report → (kind operand : ℕ) → ℕ
+dueRule first k n = cond (ltb k 16) 21 (reportRule first (record { kind = k; who = n % 256 }))
+
+-- what one record asks: that questions 7 and 8 let it pass, and what a step asks
+pub record Single (s : State) (ceilings : List ℕ) (who kind operand : ℕ) : Type 0 where
+  pub kind' : T (kindAllowed false kind)
+  pub operand' : T (operandFits (s .machine .plan .threads) (s .machine .plan .sections) kind operand)
+  pub steps : Steps s ceilings who (recordOf kind operand)
 
 -- the watch state that a struct stands for
 abbrev pub seen : Watch → Watched

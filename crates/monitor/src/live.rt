@@ -3,7 +3,8 @@ ghost use mathlib.Core.Path.{_≡_};
 ghost use Rattle.plan.specs.Bytes.{number};
 ghost use Rattle.monitor.specs.Watching.{isRule, refusal};
 ghost use Rattle.monitor.specs.Contracts.{seen, Begins, Tells};
-use crate::walk::walk;
+use crate::single::step;
+use dump::layout::Entry;
 use dump::questions::kind_allowed;
 use dump::questions::operand_fits;
 use machine::formed::formed;
@@ -114,21 +115,22 @@ pub fn live(watch: Watch, kind: u8, operand: u16) -> Told
     let p = m.plan;
     let all = ceilings(p);
     let who = m.chosen(&all);
-    let single = [1u8, 0, kind, (operand % 256) as u8, (operand / 256) as u8];
-    let w = walk(s, &all, who, &single, 1);
-    let after = w.state;
-    let told = Watch {
-        state: after,
-        rule: w.rule,
-    };
-    if w.rule != 0 {
+    let o = step(s, &all, who, Entry { kind, operand });
+    if o.rule != 0 {
         return Told {
-            watch: told,
-            reply: Reply::Broken(w.rule),
+            watch: Watch {
+                state: s,
+                rule: o.rule,
+            },
+            reply: Reply::Broken(o.rule),
         };
     }
+    let after = o.state;
     Told {
-        watch: told,
+        watch: Watch {
+            state: after,
+            rule: 0,
+        },
         reply: Reply::Clean(after.due_count()),
     }
 }

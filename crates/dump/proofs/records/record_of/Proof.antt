@@ -15,13 +15,10 @@ use Rattle.machine.specs.declared.rules.Record.the-variants.{Create, Take, Give
 use Rattle.dump.specs.Layout.{nobody, threadOf}
 use Rattle.dump.specs.Questions.{isCall, kindAllowed, operandFits}
 use Rattle.dump.specs.Reading.{Reads}
-use Rattle.dump.proofs.Codec.{fits-kind, each-call, each-kind}
+use Rattle.dump.proofs.Codec.{fits-kind, each-call}
+use Rattle.dump.proofs.Readings.{low, reports}
 use Rattle.dump.proofs.records.record_of.Statement.{statement}
 use Rattle.dump.proofs.records.record_of.Tie as tie
-
--- an operand below 16 is its own low byte
-low : (n : ℕ) → T (ltb n 16) → n % 256 ≡ n
-low n t = mod-eq-of-lt (omega (arith, ltb→lt n 16 t))
 
 -- each kind of call, with an operand that fits
 module _ (k n : ℕ) (t : T (operandFits 16 16 k n)) where
@@ -57,42 +54,6 @@ returns-6 c = let a = c .before .args .entry in gives (a .kind) (a .operand) (c 
 
 returns-7 : tie.Need-returns-7
 returns-7 c = rw (c .match .keys7) (record { same = refl; kind' = tt })
-
--- a report: the low byte of its operand is the machine's number of the thread that it names
-module _ (n : ℕ) where
-  or-no : (a : Bool) → T (a || false) → T a
-  or-no true t = tt
-  or-no false t = t
-
-  thread : T (ltb n 16 || false) → n % 256 ≡ n
-  thread t = low n (or-no (ltb n 16) t)
-
-  switch : T (ltb n 16 || eqb n nobody) → machine-thread (n % 256) ≡ threadOf n
-  switch t = go (split (eqb n nobody))
-    where
-      go : T (eqb n nobody) ⊎ T (not (eqb n nobody)) → machine-thread (n % 256) ≡ threadOf n
-      go (inl e) = rw (eqb→eq n nobody e)
-      go (inr d) =
-          let z : eqb n nobody ≡ false = is-false (eqb n nobody) d in
-          let h : T (ltb n 16) = or-no (ltb n 16) (rw z at t) in
-          rw (z, low n h, ne-eqb n 255 (λ e. omega (arith, ltb→lt n 16 h)))
-
-  called : {A : Type 0} → true ≡ false → A
-  called e = absurd (subst T e tt)
-
-  abbrev Fits : ℕ → Type 0
-  Fits k = isCall k ≡ false → T (operandFits 16 16 k n) → Reads (Report (record { kind = k; who = n % 256 })) k n
-
-  reports : (k : ℕ) → T (kindAllowed false k) → Fits k
-  reports k t =
-      each-kind Fits
-      called called called called called called called
-      (λ c f. record { same = ap (λ i. model.report (model.Ready i)) (thread f); kind' = record { least = omega arith; most = omega arith } })
-      (λ c f. record { same = ap (λ o. model.report (model.Switch o)) (switch f); kind' = record { least = omega arith; most = omega arith } })
-      (λ c f. record { same = ap (λ i. model.report (model.Won i)) (thread f); kind' = record { least = omega arith; most = omega arith } })
-      (λ c f. record { same = ap (λ i. model.report (model.Lost i)) (thread f); kind' = record { least = omega arith; most = omega arith } })
-      (λ c f. record { same = ap (λ i. model.report (model.Yield i)) (thread f); kind' = record { least = omega arith; most = omega arith } })
-      k t
 
 -- a kind that is none of 1 to 7 is no call
 no-call : (k : ℕ) → k ≢ 1 → k ≢ 2 → k ≢ 3 → k ≢ 4 → k ≢ 5 → k ≢ 6 → k ≢ 7 → isCall k ≡ false

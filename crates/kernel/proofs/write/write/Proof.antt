@@ -8,12 +8,10 @@ use lib.ListN.{length, length-set}
 use Rattle.model.specs.Records.{Record, call, report}
 use Rattle.machine.specs.View.{view}
 use Rattle.machine.specs.Steps.{Fresh}
-use Rattle.dump.specs.Layout.{kindAt, operandAt}
-use Rattle.dump.specs.Reading.{Reads}
 use Rattle.kernel.specs.Answers.{recordsOf, inFront}
 use Rattle.kernel.specs.Contracts.{Passed, madeOf, placedFrom, AllFit}
 use Rattle.kernel.proofs.Placing.{from-size, from-next, counted, all-placed}
-use Rattle.kernel.proofs.CallList.{callAt, list-whole, calls-few, call-readable, call-kind, call-operand, reads-as}
+use Rattle.kernel.proofs.CallList.{callAt, list-whole, calls-few, call-kind, call-operand}
 use Rattle.kernel.proofs.CallsMade.{CallsMade, added, added-count, made-begin, made-all, made-steps, made-admitted, made-within, made-formed, made-next}
 use Rattle.kernel.proofs.write.write.Statement.{statement}
 use Rattle.kernel.proofs.write.write.Tie as tie
@@ -65,76 +63,64 @@ size c =
 entry-at-requires : tie.Need-entry-at-requires Inv-loop μ-loop
 entry-at-requires c κs = (list-whole (passed (c .before)), passed (c .before) .count, c .loop-test .taken)
 
-record-of-requires : tie.Need-record-of-requires Inv-loop μ-loop
-record-of-requires c κs =
-    let i = c .before in
-    let e = c .entry-at .ensures in
-    rw (e .0, e .1) (call-readable (passed (i .before)) (i .before .loop .k) (i .loop-test .taken))
-
--- the record read is the one of call k
-reads : (c : tie.After-record-of Inv-loop μ-loop) → (let l = c .before .before .before in let d = l .before .before .before .before .args .list .now in Reads (c .record-of .result) (kindAt d (l .loop .k)) (operandAt d (l .loop .k)))
-reads c =
-    let e = c .before .entry-at .ensures in
-    reads-as (c .record-of .ensures) (e .0) (e .1)
-
 step-requires : tie.Need-step-requires Inv-loop μ-loop
 step-requires c κs =
-    let l = c .before .before .before in
-    made-steps (passed l) (l .loop .inv .3) (c .before .before .loop-test .taken) (c .record-of .result) (reads c)
+    let l = c .before .before in
+    made-steps (passed l) (l .loop .inv .3) (c .before .loop-test .taken) (c .entry-at .ensures)
 
 -- every call is admitted, so this one is
 admitted : (c : tie.After-step Inv-loop μ-loop) → c .step .result .rule ≡ 0
 admitted c =
-    let l = c .before .before .before .before in
-    made-admitted (passed l) (l .loop .inv .3) (c .before .before .before .loop-test .taken) (c .before .record-of .result) (reads (c .before)) (c .step .result) (c .step .ensures) (space l .admitted)
+    let l = c .before .before .before in
+    made-admitted (passed l) (l .loop .inv .3) (c .before .before .loop-test .taken) (c .before .entry-at .ensures) (c .step .result) (c .step .ensures) (space l .admitted)
 
 -- and there is room for it and its reports
-fits : (c : tie.After-step Inv-loop μ-loop) → (let l = c .before .before .before .before in l .loop .i + 1 + length (view (c .step .result .state) .due) ≤ l .before .before .before .before .args .n)
+fits : (c : tie.After-step Inv-loop μ-loop) → (let l = c .before .before .before in l .loop .i + 1 + length (view (c .step .result .state) .due) ≤ l .before .before .before .before .args .n)
 fits c =
-    let l = c .before .before .before .before in
-    let w = made-within (passed l) (l .loop .inv .3) (c .before .before .before .loop-test .taken) (c .before .record-of .result) (reads (c .before)) (c .step .result) (c .step .ensures) (admitted c) (space l .admitted) in
+    let l = c .before .before .before in
+    let w = made-within (passed l) (l .loop .inv .3) (c .before .before .loop-test .taken) (c .before .entry-at .ensures) (c .step .result) (c .step .ensures) (admitted c) (space l .admitted) in
     omega (arith, w, space l .count, l .loop .inv .2)
 
 put-requires : tie.Need-put-requires Inv-loop μ-loop
 put-requires c κs =
     let t = c .before in
-    let l = t .before .before .before .before in
+    let l = t .before .before .before in
     (omega (arith, fits t), omega (arith, size l, space l .room))
 
 add-put-reports : tie.Need-add-put-reports Inv-loop μ-loop
 add-put-reports c =
     let t = c .before .before .before .before .before .before in
-    record { fits = omega (arith, fits t, space (t .before .before .before .before) .few) }
+    record { fits = omega (arith, fits t, space (t .before .before .before) .few) }
 
 put-reports-requires : tie.Need-put-reports-requires Inv-loop μ-loop
 put-reports-requires c κs =
     let u = c .before .before .before .before in
     let t = u .before .before in
-    let l = t .before .before .before .before in
+    let l = t .before .before .before in
     record {
-      formed' = made-formed (passed l) (l .loop .inv .3) (t .before .before .before .loop-test .taken) (t .before .record-of .result) (reads (t .before)) (t .step .result) (t .step .ensures) (admitted t);
+      formed' = made-formed (passed l) (l .loop .inv .3) (t .before .before .loop-test .taken) (t .before .entry-at .ensures) (t .step .result) (t .step .ensures) (admitted t);
       within = fits t;
       room = omega (arith, size l, space l .room, u .put .kept .0);
     }
 
 add-k : tie.Need-add-k Inv-loop μ-loop
 add-k c =
-    let i = c .before .before .before .before .before .before .before .before .before .before .before .before .before in
+    let i = c .before .before .before .before .before .before .before .before .before .before .before .before in
     record { fits = omega (arith, calls-few (passed (i .before)), i .loop-test .taken) }
 
 loop-less : tie.Need-loop-less Inv-loop μ-loop
-loop-less c = omega (arith, c .before .before .before .before .before .before .before .before .before .before .before .before .before .loop-test .taken)
+loop-less c = omega (arith, c .before .before .before .before .before .before .before .before .before .before .before .before .loop-test .taken)
 
 loop-again : tie.Need-loop-again Inv-loop μ-loop
 loop-again c =
     let w = c .before .before .before in
     let u = w .before .before .before .before .before in
     let t = u .before .before in
-    let e = t .before .before .entry-at .ensures in
-    let l = t .before .before .before .before in
+    let e = t .before .entry-at .ensures in
+    let l = t .before .before .before in
     let s = l .before .before .before .before in
     let v = l .loop .inv in
-    let h = t .before .before .before .loop-test .taken in
+    let h = t .before .before .loop-test .taken in
     let o = t .step .result in
     let d = s .args .list .now in
     let k = l .loop .k in
@@ -143,8 +129,8 @@ loop-again c =
       omega (arith, h),
       v .1 ++ added d k after,
       count,
-      made-next (passed l) (v .3) h (t .before .record-of .result) (reads (t .before)) o (t .step .ensures) (admitted t) (w .put-reports .result .state) (w .put-reports .ensures .settles),
-      from-next (s .args .n) (l .loop .i) (v .1) (map report (after .due)) (call (callAt d k)) (t .before .before .entry-at .result .kind) (t .before .before .entry-at .result .operand)
+      made-next (passed l) (v .3) h (t .before .entry-at .ensures) o (t .step .ensures) (admitted t) (w .put-reports .result .state) (w .put-reports .ensures .settles),
+      from-next (s .args .n) (l .loop .i) (v .1) (map report (after .due)) (call (callAt d k)) (t .before .entry-at .result .kind) (t .before .entry-at .result .operand)
           (counted (s .args .n) (s .args .out .now)) (l .loop .out) (u .put .last .0) (w .put-reports .last .1 .0) (v .2) (v .4)
           (e .0 ∙ call-kind (passed l) k h) (e .1 ∙ call-operand (passed l) k h) (u .put .ensures) (w .put-reports .ensures .bytes),
     )
@@ -173,7 +159,6 @@ write-spec =
     fresh-requires
     loop-holds
     entry-at-requires
-    record-of-requires
     step-requires
     put-requires
     add-put-reports

@@ -1,9 +1,16 @@
 -- `Machine::delay` meets its contract: the caller sleeps until the wait is over, and is in no queue.
-use mathlib.Core.Path.{refl, ap, _∙_}
+use mathlib.Core.Path.{_≡_, refl, ap, sym, _∙_}
+use mathlib.Core.Logic.{⊎-elim}
+use Prim.Native.Nat.{ℕ}
 use lib.ListN.{set}
 use Rattle.model.specs.State.{asleep}
 use Rattle.model.specs.Calls.{delay}
+use Rattle.machine.specs.declared.Machine.{Machine}
 use Rattle.machine.specs.View.{conditionsOf}
+use Rattle.machine.specs.Rules.{freeRule}
+use Rattle.machine.specs.Contracts.{Asked}
+use Rattle.machine.proofs.Admitted.{Runs, admits, refuses, by}
+use Rattle.machine.proofs.Asking.{delay-rule, delays}
 use Rattle.machine.proofs.Facts.{facts}
 use Rattle.machine.proofs.Sized.{slots-size}
 use Rattle.machine.proofs.Room.{caller-fits}
@@ -12,37 +19,58 @@ use Rattle.machine.proofs.Meets.{alike, placed-seen}
 use Rattle.machine.proofs.Machine.delay.Statement.{statement}
 use Rattle.machine.proofs.Machine.delay.Tie as tie
 
+-- where the rule's answer is 0, the caller is the chosen thread
+admitted : {m : Machine} {x rule : ℕ} → Asked m x → (n : ℕ) → rule ≡ freeRule (m .holds) x → rule ≡ 0 → Runs m x
+admitted a n e z = delays a n (sym (delay-rule a n) ∙ sym e ∙ z)
+
+free-rule-requires : tie.Need-free-rule-requires
+free-rule-requires c κs = listed (facts (c .before .pre .formed)) .holds'
+
 after-requires : tie.Need-after-requires
-after-requires c κs = facts (c .before .pre .formed) .tick
+after-requires c κs = facts (c .before .before .before .before .pre .formed) .tick
 
 placed-requires : tie.Need-placed-requires
-placed-requires c κs = caller-fits (c .before .before .before .pre)
+placed-requires c κs =
+    let d = c .before .before .before in
+    let k = d .before in
+    let s = k .before .before in
+    caller-fits (admitted (s .pre) (s .args .wait .0) (k .free-rule .ensures) (d .if1 .taken))
 
 without-requires : tie.Need-without-requires
-without-requires c κs = listed (facts (c .before .before .before .before .before .pre .formed)) .queue'
+without-requires c κs = listed (facts (c .before .before .before .before .before .before .before .before .pre .formed)) .queue'
 
 none-requires : tie.Need-none-requires
 none-requires c κs = tt
 
+-- the ways that meet before the return: the caller may sleep, or a rule is broken. Last in each stands the machine.
 returns : tie.Need-returns
 unfolding delay
 returns c =
-    let q = c .before in
-    let p = q .before .before in
-    let a = p .before .before in
-    let s = a .before .before in
+    let o = c .before in
+    let j = o .before in
+    let k = j .before in
+    let s = k .before .before in
     let m = s .args .self in
     let x = s .args .caller in
-    record {
+    let n = s .args .wait .0 in
+    let e = k .free-rule .ensures ∙ delay-rule (s .pre) n in
+    ⊎-elim
+    (λ w.
+    let r = admitted (s .pre) n (k .free-rule .ensures) (w .0 .taken) in
+    rw (w .7)
+    (admits _ e (by r (λ y. delay y n)) (w .0 .taken)
+    (record {
       plan' = refl;
       seen =
           alike refl
-          (placed-seen (m .plan .threads) (m .slots) x (record { state = 2; value = a .after .result .0 }) (slots-size m (s .good .0)) (caller-fits (s .pre)) (p .placed .ensures)
-          ∙ ap (λ n. set (conditionsOf (m .plan .threads) (m .slots)) x (asleep n)) (a .after .ensures))
-          (q .without .ensures)
+          (placed-seen (m .plan .threads) (m .slots) x (record { state = 2; value = w .2 .result .0 }) (slots-size m (s .good .0)) (caller-fits r) (w .4 .ensures)
+          ∙ ap (λ u. set (conditionsOf (m .plan .threads) (m .slots)) x (asleep u)) (w .2 .ensures))
+          (w .6 .ensures)
           refl refl refl
-          (c .none .ensures);
-    }
+          (o .none .ensures);
+    })))
+    (λ w. rw (w .1) (refuses _ e (w .0 .left) (record { plan' = refl; seen = alike refl refl refl refl refl refl (o .none .ensures) })))
+    (j .if1 .came)
 
 pub delay-spec : {M : Type 1} → statement M
-delay-spec = tie.close (tie.spec after-requires placed-requires without-requires none-requires returns)
+delay-spec = tie.close (tie.spec free-rule-requires after-requires placed-requires without-requires none-requires returns)

@@ -1,7 +1,8 @@
 -- `Machine::relinquish` meets its contract: a rivalled caller goes to the end of the queue and yields, and any other stays.
 use mathlib.Core.Path.{_≡_, refl, ap, sym, _∙_}
-use mathlib.Core.Bool.{true, false}
-use mathlib.Core.List.{[], _∷_, _++_}
+use mathlib.Core.Logic.{⊎-elim}
+use mathlib.Core.Bool.{Bool, true, false}
+use mathlib.Core.List.{List, [], _∷_, _++_}
 use Prim.Native.Nat.{ℕ}
 use native.Mathlib.Omega.{arith}
 use lib.ListN.{length}
@@ -9,7 +10,14 @@ use Rattle.model.specs.Plan.{Plan}
 use Rattle.model.specs.Records.{Yield}
 use Rattle.model.specs.State.{State, leaveQueue, joinQueue, owe}
 use Rattle.model.specs.Calls.{rivalled, relinquish}
+use Rattle.plan.specs.View.{baseIn}
+use Rattle.machine.specs.declared.Machine.{Machine}
+use Rattle.machine.specs.Lists.{queued, held}
 use Rattle.machine.specs.View.{planOf, idle}
+use Rattle.machine.specs.Rules.{runRule}
+use Rattle.machine.specs.Contracts.{rivalledIn, Asked, Ceilings}
+use Rattle.machine.proofs.Admitted.{Runs, admits, refuses, by}
+use Rattle.machine.proofs.Asking.{relinquish-rule, relinquishes}
 use Rattle.machine.proofs.Facts.{facts}
 use Rattle.machine.proofs.Views.{length-queued}
 use Rattle.machine.proofs.Room.{caller-fits, without-room}
@@ -28,52 +36,77 @@ stays : (p : Plan) (x : ℕ) (st : State) → rivalled p x st ≡ false → reli
 unfolding relinquish
 stays p x st e = rw e
 
+module _ {m : Machine} {x : ℕ} (a : Asked m x) where
+  -- where the rule's answer is 0, the caller is the chosen thread
+  admitted : {rule : ℕ} → rule ≡ runRule x → rule ≡ 0 → Runs m x
+  admitted e z = relinquishes a (sym (relinquish-rule a) ∙ sym e ∙ z)
+
+  -- the code's test is the model's
+  tested : (ceilings : List ℕ) → Ceilings m ceilings → (r v : Bool)
+      → r ≡ rivalledIn (baseIn (m .plan .threads) (m .plan .bases)) ceilings (queued (m .queue)) (held (m .holds)) (queued (m .waits)) x
+      → r ≡ v
+      → rivalled (planOf m) x (idle m) ≡ v
+  tested ceilings c r v e k = sym (e ∙ rivalled-is m (facts (a .formed) .valid) c [] x) ∙ k
+
 none-requires : tie.Need-none-requires
 none-requires c κs = tt
 
+run-rule-requires : tie.Need-run-rule-requires
+run-rule-requires c κs = tt
+
 rivalled-of-requires : tie.Need-rivalled-of-requires
-rivalled-of-requires c κs = let r = c .before .before .before .before .before .before .pre .0 in (listed (facts (r .formed)), caller-fits r)
+rivalled-of-requires c κs =
+    let d = c .before .before .before .before .before in
+    let k = d .before in
+    let a = k .before .before .pre .0 in
+    (listed (facts (a .formed)), caller-fits (admitted a (k .run-rule .ensures) (d .if1 .taken)))
 
 without-requires : tie.Need-without-requires
-without-requires c κs = listed (facts (c .before .before .before .before .before .before .before .before .pre .0 .formed)) .queue'
+without-requires c κs = listed (facts (c .before .before .before .before .before .before .before .before .before .before .pre .0 .formed)) .queue'
 
 push-requires : tie.Need-push-requires
-push-requires c κs = omega (arith, length-queued (c .without .result), ap length (c .without .ensures), without-room (c .before .before .before .before .before .before .before .before .before .pre .0))
+push-requires c κs =
+    let d = c .before .before .before .before .before .before .before .before in
+    let k = d .before in
+    let r = admitted (k .before .before .pre .0) (k .run-rule .ensures) (d .if1 .taken) in
+    omega (arith, length-queued (c .without .result), ap length (c .without .ensures), without-room r)
 
 push-requires-2 : tie.Need-push-requires-2
-push-requires-2 c κs = let n = c .before .before .before .before .before .before .before .before .before .none in omega (arith, owed-count (n .result) (n .ensures))
+push-requires-2 c κs =
+    let n = c .before .before .before .before .before .before .before .before .before .before .before in
+    omega (arith, owed-count (n .none .result) (n .none .ensures))
 
+-- the ways that meet before the return: the caller is rivalled, it is not, or the rule is broken. Last in each stand the machine and the reports.
 returns : tie.Need-returns
 returns c =
-    let q = c .before .before in
-    let r = q .before .before in
-    let n = r .before .before .before .before .before .before in
+    let k = c .before .before in
+    let n = k .before in
     let s = n .before in
+    let a = s .pre .0 in
     let m = s .args .self in
     let x = s .args .caller in
-    record {
+    let e = k .run-rule .ensures ∙ relinquish-rule a in
+    ⊎-elim
+    (λ w.
+    let t = tested a (s .args .ceilings .now) (s .pre .1) (w .6 .result) true (w .6 .ensures) (w .7 .taken) in
+    rw (w .11, w .12)
+    (admits _ e (by (admitted a (k .run-rule .ensures) (w .0 .taken)) (relinquish (planOf m)) ∙ yields (planOf m) x (idle m) t) (w .0 .taken)
+    (record {
       plan' = refl;
       seen =
           alike refl refl
-          (c .before .push .ensures ∙ ap (λ l. l ++ (x ∷ [])) (q .without .ensures))
+          (w .9 .ensures ∙ ap (λ l. l ++ (x ∷ [])) (w .8 .ensures))
           refl refl refl
-          (c .push2 .ensures ∙ ap (λ l. l ++ (Yield x ∷ [])) (n .none .ensures))
-          ∙ sym (yields (planOf m) x (idle m) (sym (rivalled-is m (facts (s .pre .0 .formed) .valid) (s .pre .1) [] x) ∙ sym (r .rivalled-of .ensures) ∙ q .before .if1 .taken));
-    }
-
-returns-2 : tie.Need-returns-2
-returns-2 c =
-    let r = c .before in
-    let n = r .before .before .before .before .before .before in
-    let s = n .before in
-    let m = s .args .self in
-    let x = s .args .caller in
-    record {
-      plan' = refl;
-      seen =
-          alike refl refl refl refl refl refl (n .none .ensures)
-          ∙ sym (stays (planOf m) x (idle m) (sym (rivalled-is m (facts (s .pre .0 .formed) .valid) (s .pre .1) [] x) ∙ sym (r .rivalled-of .ensures) ∙ c .if1 .left));
-    }
+          (w .10 .ensures ∙ ap (λ l. l ++ (Yield x ∷ [])) (n .none .ensures));
+    })))
+    (⊎-elim
+    (λ w.
+    let t = tested a (s .args .ceilings .now) (s .pre .1) (w .6 .result) false (w .6 .ensures) (w .7 .left) in
+    rw (w .8, w .9)
+    (admits _ e (by (admitted a (k .run-rule .ensures) (w .0 .taken)) (relinquish (planOf m)) ∙ stays (planOf m) x (idle m) t) (w .0 .taken)
+    (record { plan' = refl; seen = alike refl refl refl refl refl refl (n .none .ensures) })))
+    (λ w. rw (w .1, w .2) (refuses _ e (w .0 .left) (record { plan' = refl; seen = alike refl refl refl refl refl refl (n .none .ensures) }))))
+    (c .before .if1 .came)
 
 pub relinquish-spec : {M : Type 1} → statement M
-relinquish-spec = tie.close (tie.spec none-requires rivalled-of-requires without-requires push-requires push-requires-2 returns returns-2)
+relinquish-spec = tie.close (tie.spec none-requires run-rule-requires rivalled-of-requires without-requires push-requires push-requires-2 returns)

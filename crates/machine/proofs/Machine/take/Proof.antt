@@ -1,21 +1,26 @@
 -- `Machine::take` meets its contract: a caller whose base is above every ceiling held by others holds the section, any other waits for it.
 use mathlib.Core.Path.{_≡_, refl, ap, sym, _∙_}
+use mathlib.Core.Logic.{⊎-elim}
 use mathlib.Core.Bool.{Bool, true, false}
 use mathlib.Core.List.{List, [], _∷_, _++_}
-use Prim.Native.Nat.{ℕ}
+use Prim.Native.Nat.{ℕ, _<_}
 use native.Mathlib.Omega.{arith}
 use lib.Dec.{ltb}
 use Rattle.model.specs.Searches.{_▷_, all}
 use Rattle.model.specs.Plan.{Plan}
+use Rattle.model.specs.Records as records
 use Rattle.model.specs.Records.{Won, Lost}
 use Rattle.model.specs.State.{State, waiting, becomes, leaveQueue, joinWaits, beginHold, owe}
 use Rattle.model.specs.Calls.{take, aboveAll, heldByOthers}
 use Rattle.model.proofs.Tests.{from-true}
 use Rattle.plan.specs.View.{baseIn}
 use Rattle.machine.specs.declared.Machine.{Machine}
+use Rattle.machine.specs.declared.calls.Called.{Called}
 use Rattle.machine.specs.Lists.{held, ceilingIn}
 use Rattle.machine.specs.View.{planOf, idle}
-use Rattle.machine.specs.Contracts.{Ceilings}
+use Rattle.machine.specs.Contracts.{Ceilings, SectionAsked, Makes}
+use Rattle.machine.proofs.Admitted.{Takes, Meets, asked, admits, refuses, by}
+use Rattle.machine.proofs.Asking.{take-rule, takes}
 use Rattle.machine.proofs.Facts.{Facts, facts}
 use Rattle.machine.proofs.Sized.{slots-size}
 use Rattle.machine.proofs.Room.{caller-fits, take-room, waits-room}
@@ -42,90 +47,109 @@ module _ (p : Plan) (x s : ℕ) (st : State) {a : State} where
   unfolding take
   lost-seen e q = rw e q
 
+-- a call that breaks no rule hands back what the model's Take makes
+made : {m : Machine} {x s : ℕ} (r : Called) → SectionAsked m x s → r .rule ≡ asked m (records.Take s) → r .rule ≡ 0 → Meets r m (take (planOf m) x s (idle m)) → Makes r m (records.Take s)
+made {m} {x} {s} r a e z w = admits r e (by (takes a (sym e ∙ z) .runs) (λ y. take (planOf m) y s)) z w
+
 none-requires : tie.Need-none-requires
 none-requires c κs = tt
 
+take-rule-requires : tie.Need-take-rule-requires
+take-rule-requires c κs =
+    let a = c .before .before .before .before .before .pre .0 in
+    let f = facts (a .asked .formed) in
+    (f .fits .threads, listed f .holds', omega (arith, a .known, f .fits .sections))
+
+abbrev start : tie.Then1 → tie.Start
+start c = c .before .before .before .before .before .before .before
+
+-- where no rule is broken, what the rules of Take say holds
+granted : (c : tie.Then1) → Takes (start c .args .self) (start c .args .caller) (start c .args .section)
+granted c = let a = start c .pre .0 in takes a (sym (take-rule a) ∙ sym (c .before .take-rule .ensures) ∙ c .if1 .taken)
+
 base-requires : tie.Need-base-requires
-base-requires c κs = facts (c .before .before .before .before .pre .0 .runs .formed) .fits .threads
+base-requires c κs = facts (start c .pre .0 .asked .formed) .fits .threads
 
 clear-requires : tie.Need-clear-requires
-clear-requires c κs = listed (facts (c .before .before .before .before .before .pre .0 .runs .formed)) .holds'
+clear-requires c κs = listed (facts (start (c .before) .pre .0 .asked .formed)) .holds'
 
 push-requires : tie.Need-push-requires
 push-requires c κs =
     let k = c .before in
     let b = k .before in
-    let s = b .before .before .before .before .before in
+    let s = start (b .before) in
     let m = s .args .self in
-    take-room (s .pre .0)
+    take-room (granted (b .before))
     (from-true (aboveAll (planOf m) (s .args .caller) (heldByOthers (s .args .caller) (held (m .holds))))
-    (tested m (s .args .ceilings .now) (facts (s .pre .0 .runs .formed)) (s .pre .1) (s .args .caller) (b .base .result) (k .clear .result) true (b .base .ensures) (k .clear .ensures) (c .if1 .taken)))
+    (tested m (s .args .ceilings .now) (facts (s .pre .0 .asked .formed)) (s .pre .1) (s .args .caller) (b .base .result) (k .clear .result) true (b .base .ensures) (k .clear .ensures) (c .if2 .taken)))
+
+-- nothing is due yet
+unowed : (c : tie.Then1) → c .before .before .before .before .before .before .none .result .count < 17
+unowed c = let n = c .before .before .before .before .before .before in omega (arith, owed-count (n .none .result) (n .none .ensures))
 
 push-requires-2 : tie.Need-push-requires-2
-push-requires-2 c κs = let n = c .before .before .before .before .before .before .before in omega (arith, owed-count (n .none .result) (n .none .ensures))
+push-requires-2 c κs = unowed (c .before .before .before .before)
 
 without-requires : tie.Need-without-requires
-without-requires c κs = listed (facts (c .before .before .before .before .before .before .before .before .pre .0 .runs .formed)) .queue'
+without-requires c κs = listed (facts (start (c .before .before .before .before) .pre .0 .asked .formed)) .queue'
 
 placed-requires : tie.Need-placed-requires
-placed-requires c κs = caller-fits (c .before .before .before .before .before .before .before .before .before .before .pre .0 .runs)
+placed-requires c κs = caller-fits (granted (c .before .before .before .before .before .before) .runs)
 
 push-requires-3 : tie.Need-push-requires-3
-push-requires-3 c κs = waits-room (c .before .before .before .before .before .before .before .before .before .before .before .before .pre .0 .runs)
+push-requires-3 c κs = waits-room (granted (c .before .before .before .before .before .before .before .before) .runs)
 
 push-requires-4 : tie.Need-push-requires-4
-push-requires-4 c κs =
-    let n = c .before .before .before .before .before .before .before .before .before .before .before .before in
-    omega (arith, owed-count (n .none .result) (n .none .ensures))
+push-requires-4 c κs = unowed (c .before .before .before .before .before .before .before .before .before)
 
+-- the ways that meet before the return: the caller wins, the caller waits, a rule is broken. Last in each stand the machine and the reports.
 returns : tie.Need-returns
 returns c =
-    let w = c .before .before in
-    let k = w .before in
-    let b = k .before in
-    let n = b .before .before .before .before in
+    let r = c .before .before in
+    let n = r .before .before .before .before .before in
     let s = n .before in
     let m = s .args .self in
     let x = s .args .caller in
-    record {
+    let a = s .pre .0 in
+    let f = facts (a .asked .formed) in
+    let e = r .take-rule .ensures ∙ take-rule a in
+    ⊎-elim
+    (λ w.
+    rw (w .6, w .7)
+    (made _ a e (w .0 .taken)
+    (record {
       plan' = refl;
       seen =
           won-seen (planOf m) x (s .args .section) (idle m)
-          (tested m (s .args .ceilings .now) (facts (s .pre .0 .runs .formed)) (s .pre .1) x (b .base .result) (k .clear .result) true (b .base .ensures) (k .clear .ensures) (w .if1 .taken))
-          (alike refl refl refl (c .before .push .ensures) refl refl (c .push2 .ensures ∙ ap (λ l. l ++ (Won x ∷ [])) (n .none .ensures)));
-    }
-
-returns-2 : tie.Need-returns-2
-returns-2 c =
-    let j = c .before in
-    let d = j .before .before in
-    let q = d .before .before in
-    let w = q .before .before in
-    let k = w .before in
-    let b = k .before in
-    let n = b .before .before .before .before in
-    let s = n .before in
-    let m = s .args .self in
-    let x = s .args .caller in
-    record {
+          (tested m (s .args .ceilings .now) f (s .pre .1) x (w .1 .result) (w .2 .result) true (w .1 .ensures) (w .2 .ensures) (w .3 .taken))
+          (alike refl refl refl (w .4 .ensures) refl refl (w .5 .ensures ∙ ap (λ l. l ++ (Won x ∷ [])) (n .none .ensures)));
+    })))
+    (⊎-elim
+    (λ w.
+    rw (w .11, w .12)
+    (made _ a e (w .0 .taken)
+    (record {
       plan' = refl;
       seen =
           lost-seen (planOf m) x (s .args .section) (idle m)
-          (tested m (s .args .ceilings .now) (facts (s .pre .0 .runs .formed)) (s .pre .1) x (b .base .result) (k .clear .result) false (b .base .ensures) (k .clear .ensures) (w .if1 .left))
+          (tested m (s .args .ceilings .now) f (s .pre .1) x (w .1 .result) (w .2 .result) false (w .1 .ensures) (w .2 .ensures) (w .3 .left))
           (alike refl
-          (placed-seen (m .plan .threads) (m .slots) x (record { state = 3; value = s .args .section }) (slots-size m (s .good .0)) (caller-fits (s .pre .0 .runs)) (d .placed .ensures))
-          (q .without .ensures)
+          (placed-seen (m .plan .threads) (m .slots) x (record { state = 3; value = s .args .section }) (slots-size m (s .good .0)) (caller-fits (takes a (sym e ∙ w .0 .taken) .runs)) (w .7 .ensures))
+          (w .5 .ensures)
           refl
-          (j .push3 .ensures)
+          (w .9 .ensures)
           refl
-          (c .push4 .ensures ∙ ap (λ l. l ++ (Lost x ∷ [])) (n .none .ensures)));
-    }
+          (w .10 .ensures ∙ ap (λ l. l ++ (Lost x ∷ [])) (n .none .ensures)));
+    })))
+    (λ w. rw (w .1, w .2) (refuses _ e (w .0 .left) (record { plan' = refl; seen = alike refl refl refl refl refl refl (n .none .ensures) }))))
+    (c .before .if1 .came)
 
 pub take-spec : {M : Type 1} → statement M
 take-spec =
     tie.close
     (tie.spec
     none-requires
+    take-rule-requires
     base-requires
     clear-requires
     push-requires
@@ -134,5 +158,4 @@ take-spec =
     placed-requires
     push-requires-3
     push-requires-4
-    returns
-    returns-2)
+    returns)

@@ -9,6 +9,8 @@ use Rattle.model.specs.Records.{Ready}
 use Rattle.model.specs.Calls.{tick, sleepers}
 use Rattle.machine.specs.Lists.{queued, owed}
 use Rattle.machine.specs.View.{idle}
+use Rattle.machine.proofs.Admitted.{admits}
+use Rattle.machine.proofs.Asking.{tick-rule}
 use Rattle.machine.proofs.Facts.{facts}
 use Rattle.machine.proofs.Sized.{slots-size}
 use Rattle.machine.proofs.Meets.{alike}
@@ -95,12 +97,13 @@ loop-again c =
 returns : tie.Need-returns Inv-loop μ-loop
 unfolding tick
 returns c =
-    let l = c .before in
+    let l = c .before .before in
     let a = l .before .before .before .before .before in
     let m = a .before .before .before .args .self in
     let z : a .next .result .0 ≡ suc (m .tick .0) = omega (arith, a .next .ensures) in
-    let w = woken-done m (a .next .result .0) (l .loop .inv .2) (omega (arith, l .loop .inv .0, c .loop-test .left)) in
-    record {
+    let w = woken-done m (a .next .result .0) (l .loop .inv .2) (omega (arith, l .loop .inv .0, c .before .loop-test .left)) in
+    admits _ (tick-rule m) refl refl
+    (record {
       plan' = refl;
       seen =
           alike z
@@ -108,7 +111,7 @@ returns c =
           (w .queue' ∙ ap (λ n. queued (m .queue) ++ sleepers n (idle m)) z)
           refl refl refl
           (w .reports ∙ ap (λ n. map Ready (sleepers n (idle m))) z);
-    }
+    })
 
 pub tick-spec : {M : Type 1} → statement M
 tick-spec =

@@ -6,7 +6,7 @@ use Rattle.plan.proofs.Laws.{valid-fits}
 use Rattle.machine.proofs.Laws.{asks-chosen}
 use Rattle.monitor.specs.Watching.{refusal}
 use Rattle.monitor.specs.Contracts.{seen}
-use Rattle.monitor.proofs.Lending.{Passed, refusal-zero, passed, known, walks, tells-refused, tells-stored, tells-broken, tells-clean}
+use Rattle.monitor.proofs.Lending.{Passed, refusal-zero, passed, known, steps-over, tells-refused, tells-stored, tells-broken, tells-clean}
 use Rattle.monitor.proofs.live.live.Statement.{statement}
 use Rattle.monitor.proofs.live.live.Tie as tie
 
@@ -38,37 +38,29 @@ chosen-requires c κs =
     let p = c .before .before .before .before .before in
     asks-chosen (p .before .before .before .before .args .watch .state) (c .before .ceilings .result) (passes p .formed') (c .before .ceilings .ensures)
 
-cast-t20 : tie.Need-cast-t20
-cast-t20 c = search needs
-
-cast-t22 : tie.Need-cast-t22
-cast-t22 c = search needs
-
-slice-aggregate-walk : tie.Need-slice-aggregate-walk
-slice-aggregate-walk c = search needs
-
-walk-requires : tie.Need-walk-requires
-walk-requires c κs =
-    let w = c .before .before in
+step-requires : tie.Need-step-requires
+step-requires c κs =
+    let w = c .before in
     let r = w .before .before in
-    walks (passes (r .before .before .before .before)) (r .ceilings .ensures) (w .chosen .ensures)
+    steps-over (passes (r .before .before .before .before)) (r .ceilings .ensures) (w .chosen .ensures)
 
 returns-3 : tie.Need-returns-3
 returns-3 c =
-    let w = c .before .before .before in
-    let p = w .before .before .before .before .before .before .before .before .before in
+    let w = c .before .before in
+    let p = w .before .before .before .before .before .before .before .before in
     let a = p .before .before .before .before .args in
-    tells-broken (a .watch) (a .kind) (a .operand) (accepted (p .before .before)) (p .if2 .left) (w .walk .ensures) (c .if3 .taken)
+    tells-broken (a .watch) (a .kind) (a .operand) (accepted (p .before .before)) (p .if2 .left) (w .step .ensures) (c .if3 .taken)
 
 due-count-requires : tie.Need-due-count-requires
 due-count-requires c κs = search needs
 
 returns-4 : tie.Need-returns-4
 returns-4 c =
-    let w = c .before .before .before .before in
-    let p = w .before .before .before .before .before .before .before .before .before in
+    let e = c .before .before in
+    let w = e .before .before in
+    let p = w .before .before .before .before .before .before .before .before in
     let a = p .before .before .before .before .args in
-    tells-clean (a .watch) (a .kind) (a .operand) (accepted (p .before .before)) (p .if2 .left) (w .walk .ensures) (c .before .if3 .left) (c .due-count .ensures)
+    tells-clean (a .watch) (a .kind) (a .operand) (accepted (p .before .before)) (p .if2 .left) (w .step .ensures) (e .if3 .left) (c .due-count .ensures)
 
 pub live-spec : {M : Type 1} → statement M
 live-spec =
@@ -79,10 +71,7 @@ live-spec =
     returns-2
     ceilings-requires
     chosen-requires
-    cast-t20
-    cast-t22
-    slice-aggregate-walk
-    walk-requires
+    step-requires
     returns-3
     due-count-requires
     returns-4)
