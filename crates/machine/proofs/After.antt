@@ -12,7 +12,7 @@ use Rattle.model.specs.Searches.{_▷_, filter, upTo, without}
 use Rattle.model.specs.Plan.{base, ceiling, validPlan}
 use Rattle.model.specs.Records.{Ready, Won, Lost, Yield}
 use Rattle.model.specs.State.{Condition, dormant, asleep, waiting, State, condition, latestSwitch, lastReported, becomes, leaveQueue, joinQueue, arrive, joinWaits, leaveWaits, isHold, beginHold, endHold, owe}
-use Rattle.model.specs.Calls.{create, sleepers, tick, delay, rivalled, relinquish, end, aboveAll, heldByOthers, take, wanted, heir, handOver, give, switch}
+use Rattle.model.specs.Calls.{create, sleepers, tick, delay, rivalled, relinquish, end, aboveAll, heldByOthers, take, wanted, heir, handOver, give}
 use Rattle.model.proofs.Searches.{greatest-is, stayed, distinct-without}
 use Rattle.model.proofs.Kept.{sleeper}
 use Rattle.plan.specs.View as plans
@@ -20,8 +20,8 @@ use Rattle.plan.specs.declared.Plan.{Plan}
 use Rattle.plan.proofs.Laws.{threads-view}
 use Rattle.machine.specs.declared.Machine.{Machine}
 use Rattle.machine.specs.declared.calls.Called.{Called}
-use Rattle.machine.specs.Lists.{queued, held, owed}
-use Rattle.machine.specs.View.{planOf, viewed, idle, view}
+use Rattle.machine.specs.Lists.{queued, held}
+use Rattle.machine.specs.View.{planOf, idle, view}
 use Rattle.machine.specs.Contracts.{Ticks, Ceilings, Chooses, reportsOf}
 use Rattle.machine.specs.Steps.{Settles}
 use Rattle.machine.proofs.Admitted.{Creates, Runs, Takes, Gives, Meets}

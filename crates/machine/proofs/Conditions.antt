@@ -15,6 +15,7 @@ use Rattle.model.specs.Rules.{isDormant}
 use Rattle.model.specs.Formed.{lastWake, conditionInRange, inQueue, inWaits}
 use Rattle.machine.specs.declared.slots.Slot.{Slot}
 use Rattle.machine.specs.View.{conditionOf, noSlot, conditionsOf}
+use Rattle.machine.specs.Contracts.{wakesAt}
 
 module _ (s : Slot) where
   -- a number that names no condition
@@ -47,6 +48,12 @@ module _ (s : Slot) where
 
   pub wants : s .state ≡ 3 → wanted (conditionOf s) ≡ s .value
   wants e = rw e
+
+  pub wakes-asleep : s .state ≡ 2 → wakesAt (conditionOf s) ≡ s .value
+  wakes-asleep e = rw e
+
+  pub wakes-other : s .state ≢ 2 → wakesAt (conditionOf s) ≡ lastWake
+  wakes-other k = by-state (wakesAt (conditionOf s) ≡ lastWake) (λ e. rw e) (λ e. rw e) (λ e. absurd (k e)) (λ e. rw e) (λ h. ap wakesAt (at-none h))
 
   -- how often it stands in the queue and in the waits
   pub queued-ready : s .state ≡ 1 → 1 ≡ inQueue (conditionOf s)

@@ -18,6 +18,7 @@ pub mod After
 pub mod Outside
 pub mod Lent
 pub mod ReportKinds
+pub mod InPlace
 pub mod Owing
 pub mod Questions
 pub mod Unbroken

@@ -2,13 +2,13 @@
 -- breaks 28, a call is made by its method and followed by its Switch, or is a Tick that wakes nobody.
 use mathlib.Core.Path.{_≡_, refl, ap, sym, subst, _∙_}
 use mathlib.Core.Logic.{_⊎_, inl, inr, _≢_}
-use mathlib.Core.Bool.{Bool, true, cond}
-use mathlib.Core.List.{List, [], _∷_, _++_}
+use mathlib.Core.Bool.{cond}
+use mathlib.Core.List.{List, []}
 use mathlib.Core.Option.{Option, none, some}
 use Prim.Native.Nat.{ℕ, zero, suc, _+_, _≤_, _<_}
 use native.Mathlib.Omega.{arith}
 use borrow.Author.Tests.{eq-eqb, ne-eqb}
-use lib.Dec.{T, eqb, ltb→lt}
+use lib.Dec.{T, ltb→lt}
 use lib.ListN.{length, getD, set, drop}
 use Rattle.model.specs.Searches.{isEmpty}
 use Rattle.model.specs.Plan as plan
@@ -32,14 +32,15 @@ use Rattle.machine.specs.declared.state.State.{State}
 use Rattle.machine.specs.Lists.{numbered, threadOf, reportOf, noReport, owed}
 use Rattle.machine.specs.View.{planOf, viewed, idle, view}
 use Rattle.machine.specs.Rules.{ruleNumber, reportRule}
-use Rattle.machine.specs.Contracts.{Formed, CreateAsked, Asked, SectionAsked, Ticks, reportsOf, Makes, Quiet, Told, Passes}
+use Rattle.machine.specs.Contracts.{Formed, CreateAsked, Asked, SectionAsked, Ticks, reportsOf, Makes}
 use Rattle.machine.specs.Steps.{IsReport, Steps, Settles, stateOf, Answers}
 use Rattle.machine.proofs.Admitted.{asked, by}
 use Rattle.machine.proofs.Arrays.{stored-next}
 use Rattle.machine.proofs.Views.{threadOf-numbered}
 use Rattle.machine.proofs.Facts.{facts}
 use Rattle.machine.proofs.Room.{queued-known}
-use Rattle.machine.proofs.Quieted.{quiet-tick}
+use Rattle.machine.proofs.Quieted.{Quiet, quiet-tick}
+use Rattle.machine.proofs.InPlace.{Told, Passes}
 use Rattle.machine.proofs.Switched.{chosen-due, switch-none, switched, unswitched}
 use Rattle.machine.proofs.After.{After, created, ticked, delayed, relinquished, ended, taken, given, settles}
 use Rattle.machine.proofs.Owing.{drop-next, none-due, first-due, unowed, due-known}

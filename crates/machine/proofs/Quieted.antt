@@ -1,7 +1,8 @@
 -- A Tick before the tick number at which the first sleeper wakes changes the tick number alone.
 use mathlib.Core.Path.{_≡_, refl, ap, sym, _∙_}
+use mathlib.Core.Bool.{Bool, true, false, cond}
 use mathlib.Core.List.{List, [], _∷_, map, append-nil, List·Memᴰ as Mem, List·Memᴰ·head as here}
-use Prim.Native.Nat.{ℕ, suc, _+_, _<_}
+use Prim.Native.Nat.{ℕ, zero, suc, _+_, _≤_, _<_}
 use native.Mathlib.Omega.{arith}
 use lib.Dec.{T, eqb→eq}
 use lib.ListN.{length, getD}
@@ -12,10 +13,31 @@ use Rattle.model.specs.Calls.{sleepsUntil, sleepers, tick}
 use Rattle.model.proofs.Searches.{filtered, upTo-at}
 use Rattle.plan.proofs.Loops.{length-listed}
 use Rattle.machine.specs.declared.Machine.{Machine}
-use Rattle.machine.specs.View.{conditionOf, noSlot, idle}
-use Rattle.machine.specs.Contracts.{Quiet}
+use Rattle.machine.specs.declared.slots.Slot.{Slot}
+use Rattle.machine.specs.View.{conditionOf, noSlot, conditionsOf, idle}
+use Rattle.machine.specs.Contracts.{wakesAt, soonest}
 use Rattle.machine.proofs.Views.{condition-at}
 use Rattle.machine.proofs.Meets.{alike}
+
+-- no sleeper wakes before this tick number
+pub record Quiet (threads : ℕ) (slots : List Slot) (until : ℕ) : Type 0 where
+  pub asleep' : (t n : ℕ) → t < threads → conditionOf (getD slots t noSlot) ≡ asleep n → until ≤ n
+
+-- the soonest is at most the tick number at which any of them wakes
+soonest-least : (cs : List Condition) (t : ℕ) → soonest cs ≤ wakesAt (getD cs t dormant)
+soonest-least [] t = omega arith
+soonest-least (c ∷ cs) zero = omega arith
+soonest-least (c ∷ cs) (suc t) = omega (arith, soonest-least cs t)
+
+module _ (threads : ℕ) (slots : List Slot) where
+  pub soonest-quiet : Quiet threads slots (soonest (conditionsOf threads slots))
+  soonest-quiet =
+      record { asleep' = λ t n h e. omega (arith, soonest-least (conditionsOf threads slots) t, ap wakesAt (condition-at threads slots t h ∙ e)) }
+
+  -- and before the tick number 0 nobody wakes
+  pub known-quiet : (known : Bool) → Quiet threads slots (cond known (soonest (conditionsOf threads slots)) 0)
+  known-quiet true = soonest-quiet
+  known-quiet false = record { asleep' = λ t n h e. omega arith }
 
 no-member : (l : List ℕ) → ((t : ℕ) → Mem t l → ⊥) → l ≡ []
 no-member [] f = refl

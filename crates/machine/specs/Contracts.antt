@@ -1,30 +1,29 @@
 -- What the machine's functions ask and answer.
 use mathlib.Core.Path.{_≡_}
 use mathlib.Core.Bool.{Bool, cond, not, _&&_}
-use mathlib.Core.List.{List, map, List·Memᴰ as Mem}
+use mathlib.Core.List.{List, [], _∷_, map, List·Memᴰ as Mem}
 use mathlib.Core.Option.{Option, some, Option·map}
-use Prim.Native.Nat.{ℕ, _+_, max, _≤_, _<_}
+use Prim.Native.Nat.{ℕ, _+_, max, min, _≤_, _<_}
 use lib.Dec.{T, eqb}
-use lib.ListN.{getD}
 use Rattle.model.specs.Searches.{any, firstGreatest, greatest, same, upTo}
 use Rattle.model.specs.Plan as plan
 use Rattle.model.specs.State as state
+use Rattle.model.specs.State.{Condition, dormant, ready, asleep, waiting}
 use Rattle.model.specs.Priorities.{chosen}
 use Rattle.model.specs.Records as records
 use Rattle.model.specs.Calls.{perform}
 use Rattle.model.specs.Rules.{broken}
-use Rattle.model.specs.Formed.{formed, lastTick}
+use Rattle.model.specs.Formed.{formed, lastTick, lastWake}
 use Rattle.plan.specs.View as plans
 use Rattle.plan.specs.declared.Plan.{Plan}
 use Rattle.machine.specs.declared.queue.Queue.{Queue}
 use Rattle.machine.specs.declared.holds.Holds.{Holds}
 use Rattle.machine.specs.declared.Machine.{Machine}
-use Rattle.machine.specs.declared.slots.Slot.{Slot}
 use Rattle.machine.specs.declared.calls.Called.{Called}
 use Rattle.machine.specs.declared.reports.Reports.{Reports}
 use Rattle.machine.specs.declared.reports.Report.{Report}
-use Rattle.machine.specs.Lists.{numbered, threadOf, queued, reportOf, owed, ceilingIn}
-use Rattle.machine.specs.View.{conditionOf, noSlot, planOf, viewed, idle}
+use Rattle.machine.specs.Lists.{numbered, queued, owed, ceilingIn}
+use Rattle.machine.specs.View.{planOf, viewed, idle}
 use Rattle.machine.specs.Rules.{ruleNumber}
 
 -- owner, current priority and chosen thread from the parts that they are read from
@@ -105,21 +104,36 @@ pub record Makes (r : Called) (m : Machine) (k : records.Call) : Type 0 where
   pub made : r .rule ≡ 0 → viewed (r .machine) (owed (reportsOf r)) ≡ perform (planOf m) k (idle m)
   pub kept : (r .rule ≡ 0 → ⊥) → viewed (r .machine) (owed (reportsOf r)) ≡ idle m
 
--- no sleeper wakes before this tick number
-pub record Quiet (threads : ℕ) (slots : List Slot) (until : ℕ) : Type 0 where
-  pub asleep' : (t n : ℕ) → t < threads → conditionOf (getD slots t noSlot) ≡ state.asleep n → until ≤ n
+-- the tick number that a sleeper waits for; for any other thread the greatest that there can be
+abbrev pub wakesAt : Condition → ℕ
+wakesAt dormant = lastWake
+wakesAt ready = lastWake
+wakesAt (asleep n) = n
+wakesAt (waiting s) = lastWake
 
--- a report given: a Switch given names the thread reported
-pub record Told (r c : Called) (given : Report) : Type 0 where
-  pub plan' : r .machine .plan ≡ c .machine .plan
-  pub slots' : r .machine .slots ≡ c .machine .slots
-  pub reports' : reportsOf r ≡ reportsOf c
-  pub seen : (due : List records.Report) → viewed (r .machine) due ≡ state.setReported (state.switchedTo (threadOf (c .machine .reported)) (reportOf given)) (viewed (c .machine) due)
+-- the least tick number that a sleeper waits for, lastWake where nobody sleeps before it
+abbrev pub soonest : List Condition → ℕ
+soonest [] = lastWake
+soonest (c ∷ cs) = min (wakesAt c) (soonest cs)
 
--- a Tick that wakes nobody
-pub record Passes (r c : Called) : Type 0 where
-  pub plan' : r .machine .plan ≡ c .machine .plan
-  pub reports' : reportsOf r ≡ reportsOf c
-  pub slots' : r .machine .slots ≡ c .machine .slots
-  pub reported' : r .machine .reported ≡ c .machine .reported
-  pub seen : (due : List records.Report) → viewed (r .machine) due ≡ state.setTickNumber (c .machine .tick .0 + 1) (viewed (c .machine) due)
+-- a report given: a Switch given names the thread reported, and nothing else changes
+abbrev pub told : Called → Report → Called
+told c given =
+    let m = c .machine in
+    record {
+      machine = record { plan = m .plan; tick = m .tick; slots = m .slots; queue = m .queue; holds = m .holds; waits = m .waits; reported = cond (eqb (given .kind) 17) (given .who) (m .reported) };
+      reports = c .reports;
+      count = c .count;
+      rule = c .rule;
+    }
+
+-- a Tick that wakes nobody: the tick number grows by one, and nothing else changes
+abbrev pub passed : Called → Called
+passed c =
+    let m = c .machine in
+    record {
+      machine = record { plan = m .plan; tick = record { 0 = m .tick .0 + 1 }; slots = m .slots; queue = m .queue; holds = m .holds; waits = m .waits; reported = m .reported };
+      reports = c .reports;
+      count = c .count;
+      rule = c .rule;
+    }

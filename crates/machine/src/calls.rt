@@ -1,15 +1,15 @@
 // What each call does. A method takes the machine by value, with nothing due, and hands it back with the reports that the call makes due, or
 // with the rule that it breaks.
 ghost use mathlib.Core.Path.{_≡_};
-ghost use mathlib.Core.Bool.{_&&_};
+ghost use mathlib.Core.Bool.{cond, _&&_};
 ghost use Prim.Native.Nat.{_+_, _≤_, _<_};
 ghost use lib.Dec.{eqb, ltb};
 ghost use Rattle.model.specs.Records as records;
 ghost use Rattle.model.specs.Priorities.{chosen};
 ghost use Rattle.model.specs.Formed.{lastTick};
 ghost use Rattle.machine.specs.Lists.{numbered};
-ghost use Rattle.machine.specs.View.{planOf, idle};
-ghost use Rattle.machine.specs.Contracts.{Starts, CreateAsked, Ticks, Asked, SectionAsked, Ceilings, Chooses, Makes, Told, Passes, Quiet};
+ghost use Rattle.machine.specs.View.{planOf, idle, conditionsOf};
+ghost use Rattle.machine.specs.Contracts.{Starts, CreateAsked, Ticks, Asked, SectionAsked, Ceilings, Chooses, Makes, told, passed, soonest};
 use crate::Machine;
 use crate::choice;
 use crate::holds::Holds;
@@ -35,7 +35,7 @@ pub struct Called {
 impl Called {
     // A Switch given names the thread reported.
     pub fn told(self, given: Report) -> Called
-        ensures { λ r. ⌜ Told r self given ⌝ }
+        ensures { λ r. ⌜ r ≡ told self given ⌝ }
     {
         let mut c = self;
         if given.kind == 17 {
@@ -47,7 +47,7 @@ impl Called {
     // A Tick at which nobody wakes: the tick number grows, and nothing else changes.
     pub fn passed(self) -> Called
         requires { ⌜ self .machine .tick .0 < lastTick ⌝ }
-        ensures { λ r. ⌜ Passes r self ⌝ }
+        ensures { λ r. ⌜ r ≡ passed self ⌝ }
     {
         let mut c = self;
         let m = c.machine;
@@ -330,7 +330,7 @@ impl Machine {
     // The tick number up to which Ticks wake nobody, 0 where that is not known.
     pub fn quiet_until(self, kind: u8) -> u32
         requires { ⌜ self .plan .threads ≤ 16 ⌝ }
-        ensures { λ r. ⌜ Quiet (self .plan .threads) (self .slots) r ⌝ }
+        ensures { λ r. ⌜ r ≡ cond (eqb kind 7) (soonest (conditionsOf (self .plan .threads) (self .slots))) 0 ⌝ }
     {
         let s = self.slots;
         let p = self.plan;

@@ -7,7 +7,7 @@ ghost use Rattle.model.specs.Calls.{sleepsUntil, wanted};
 ghost use Rattle.model.specs.Rules.{isDormant};
 ghost use Rattle.model.specs.Formed.{conditionInRange, inQueue, inWaits};
 ghost use Rattle.machine.specs.View.{conditionOf, noSlot, conditionsOf};
-ghost use Rattle.machine.specs.Contracts.{Quiet};
+ghost use Rattle.machine.specs.Contracts.{soonest};
 use crate::time::LAST_WAKE;
 use crate::time::Tick;
 
@@ -103,10 +103,10 @@ pub(crate) fn in_range(slots: [Slot; 16], threads: usize, sections: usize) -> bo
     true
 }
 
-// A tick number before which no sleeper wakes.
+// The least tick number that a sleeper waits for, LAST_WAKE where nobody sleeps before it.
 pub(crate) fn soonest(slots: [Slot; 16], threads: usize) -> u32
     requires { ⌜ threads ≤ 16 ⌝ }
-    ensures { λ r. ⌜ Quiet threads slots r ⌝ }
+    ensures { λ r. ⌜ r ≡ soonest (conditionsOf threads slots) ⌝ }
 {
     let mut first: u32 = LAST_WAKE;
     let mut t: usize = 0;

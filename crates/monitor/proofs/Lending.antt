@@ -1,7 +1,7 @@
 -- One record on a lent state: what it leaves known where nothing refuses it, and what is told of it.
-use mathlib.Core.Path.{_≡_, refl, ap, ap₂, sym, subst, _∙_}
+use mathlib.Core.Path.{_≡_, refl, ap, sym, _∙_}
 use mathlib.Core.Logic.{_⊎_, inl, inr, _≢_}
-use mathlib.Core.Bool.{Bool, true, false, cond, not, _&&_}
+use mathlib.Core.Bool.{Bool, true, false, not, _&&_}
 use mathlib.Core.List.{List}
 use mathlib.Core.Option.{Option, none, some}
 use Prim.Native.Nat.{ℕ, _<_}
@@ -170,12 +170,12 @@ module _ (w : Watch) (k n : ℕ) where
             breach' = λ m y z. ap (λ m. record { state = w .state; rule = m }) (broken-tells (sym (r .0) ∙ z));
           }
 
-      pub tells-clean : {due : ℕ} → rule' ≡ 0 → due ≡ length (view after' .due) → Tells (record { watch = record { state = after'; rule = 0 }; reply = says.Clean due }) w k n
+      pub tells-clean : {due : ℕ} → rule' ≡ 0 → due ≡ length (view after' .due) → Tells (record { watch = record { state = after'; rule = w .rule }; reply = says.Clean due }) w k n
       tells-clean f g =
           let r = judges e d (moved (view after')) (answers-moved a f) in
           record {
             answer = ap watching.clean g ∙ sym (r .0);
-            leaves = ap₂ (λ p m. record { plan = p; state = view after'; rule = m }) (ap plans.view (a .plan')) (sym d) ∙ sym (r .1);
+            leaves = ap (λ p. record { plan = p; state = view after'; rule = w .rule }) (ap plans.view (a .plan')) ∙ sym (r .1);
             refused' = λ m y. absurd (refused-clean (sym y ∙ r .0));
             stored' = λ y. absurd (y d);
             breach' = λ m y z. absurd (broken-clean (sym z ∙ r .0));

@@ -1,5 +1,5 @@
 -- One turn of a walk: what a record answers where something is due, and what the call that was made answers where nothing is.
-use mathlib.Core.Path.{_≡_, refl, ap, sym, subst, _∙_}
+use mathlib.Core.Path.{_≡_, ap, sym, subst, _∙_}
 use mathlib.Core.Logic.{_⊎_, inl, inr, _≢_}
 use mathlib.Core.Bool.{cond, not}
 use mathlib.Core.List.{List}
@@ -16,9 +16,9 @@ use Rattle.machine.specs.declared.calls.Called.{Called}
 use Rattle.machine.specs.Lists.{numbered, noReport}
 use Rattle.machine.specs.View.{planOf, idle}
 use Rattle.machine.specs.Rules.{reportRule}
-use Rattle.machine.specs.Contracts.{Makes, Told}
+use Rattle.machine.specs.Contracts.{Makes}
 use Rattle.machine.specs.Steps.{Steps, Settles, stateOf, Answers}
-use Rattle.machine.proofs.Laws.{call-due, report-breaks, report-given, report-undue, call-breaks, call-settles, call-unswitched, call-switched}
+use Rattle.machine.proofs.Laws.{Told, call-due, report-breaks, report-given, report-undue, call-breaks, call-settles, call-unswitched, call-switched}
 use Rattle.dump.specs.Layout.{recordOf}
 use Rattle.dump.specs.Questions.{operandFits}
 use Rattle.dump.proofs.Laws.{report-reads, call-reads}

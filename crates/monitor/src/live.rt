@@ -129,7 +129,7 @@ pub fn live(watch: Watch, kind: u8, operand: u16) -> Told
     Told {
         watch: Watch {
             state: after,
-            rule: 0,
+            rule: watch.rule,
         },
         reply: Reply::Clean(after.due_count()),
     }

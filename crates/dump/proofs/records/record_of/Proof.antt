@@ -1,19 +1,14 @@
 -- `record_of` meets its contract: by its kind, each entry is the machine's record that stands for the model's.
-use mathlib.Core.Path.{_≡_, refl, ap, subst}
+use mathlib.Core.Path.{_≡_, refl, ap}
 use mathlib.Core.Logic.{_⊎_, inl, inr, _≢_}
-use mathlib.Core.Bool.{Bool, true, false, not, _||_}
+use mathlib.Core.Bool.{false, not}
 use Prim.Native.Nat.{ℕ, _%_}
-use native.Mathlib.Omega.{arith}
-use native.Mathlib.Nat.{mod-eq-of-lt}
 use borrow.Author.Needs.{needs}
-use borrow.Author.Tests.{ne-eqb}
-use lib.Dec.{T, eqb, ltb, eqb→eq, ltb→lt}
+use lib.Dec.{T}
 use Rattle.model.specs.Records as model
 use Rattle.model.proofs.Tests.{split, is-false}
-use Rattle.machine.specs.Lists.{threadOf as machine-thread}
-use Rattle.machine.specs.declared.rules.Record.the-variants.{Create, Take, Give, Report}
-use Rattle.dump.specs.Layout.{nobody, threadOf}
-use Rattle.dump.specs.Questions.{isCall, kindAllowed, operandFits}
+use Rattle.machine.specs.declared.rules.Record.the-variants.{Create, Take, Give}
+use Rattle.dump.specs.Questions.{isCall, operandFits}
 use Rattle.dump.specs.Reading.{Reads}
 use Rattle.dump.proofs.Codec.{fits-kind, each-call}
 use Rattle.dump.proofs.Readings.{low, reports}

@@ -1,53 +1,64 @@
--- `soonest` meets its contract: after t turns no sleeper below t wakes before the number kept.
-use mathlib.Core.Path.{_≡_, refl, ap, sym, _∙_}
+-- `soonest` meets its contract: after t turns the answer is the least of the number kept and of those that the slots from t on stand for.
+use mathlib.Core.Path.{_≡_}
 use mathlib.Core.Logic.{_⊎_, inl, inr, _≢_, ⊎-elim}
-use mathlib.Core.Bool.{_&&_}
-use mathlib.Core.List.{List}
-use Prim.Native.Nat.{ℕ, _+_, _-_, _≤_, _<_}
+use mathlib.Core.List.{List, [], _∷_, map}
+use Prim.Native.Nat.{ℕ, _+_, _-_, min, _≤_, _<_}
 use native.Mathlib.Omega.{arith}
 use borrow.Author.Needs.{needs}
-use borrow.Author.Tests.{eq-eqb, ltb-true, ltb-false}
-use lib.Dec.{T, eqb, eqb→eq}
+use borrow.Author.Tests.{ltb-true, ltb-false}
 use lib.ListN.{getD}
-use Rattle.model.specs.State.{asleep}
-use Rattle.model.specs.Calls.{sleepsUntil}
-use Rattle.model.proofs.Tests.{equal?, from-true, and-left, and-right}
+use Rattle.model.specs.State.{Condition}
+use Rattle.model.specs.Formed.{lastWake}
+use Rattle.plan.proofs.Loops.{left, begin, turn, done}
 use Rattle.machine.specs.declared.slots.Slot.{Slot}
-use Rattle.machine.specs.View.{conditionOf, noSlot}
-use Rattle.machine.specs.Contracts.{Quiet}
-use Rattle.machine.proofs.Conditions.{sleeps-state}
+use Rattle.machine.specs.View.{conditionOf, noSlot, conditionsOf}
+use Rattle.machine.specs.Contracts.{wakesAt, soonest}
+use Rattle.machine.proofs.Conditions.{wakes-asleep, wakes-other}
 use Rattle.machine.proofs.slots.soonest.Statement.{statement}
 use Rattle.machine.proofs.slots.soonest.Tie as tie
 
--- a slot that stands for a sleeper has its tick number
-sleeper : (s : Slot) (n : ℕ) → conditionOf s ≡ asleep n → (s .state ≡ 2) × (s .value ≡ n)
-sleeper s n a =
-    let both : T (eqb (s .state) 2 && eqb (s .value) n) = from-true (eqb (s .state) 2 && eqb (s .value) n) (sym (sleeps-state s n) ∙ ap (sleepsUntil n) a ∙ eq-eqb n n refl) in
-    (eqb→eq (s .state) 2 (and-left (eqb (s .state) 2) (eqb (s .value) n) both), eqb→eq (s .value) n (and-right (eqb (s .state) 2) (eqb (s .value) n) both))
+at-most-last : (cs : List Condition) → soonest cs ≤ lastWake
+at-most-last [] = omega arith
+at-most-last (c ∷ cs) = omega (arith, at-most-last cs)
 
-module _ (slots : List Slot) (t : ℕ) {first : ℕ} (q : Quiet t slots first) where
-  -- one slot more is looked at, whose sleeper wakes no sooner
-  more : {kept : ℕ} → kept ≤ first → ((n : ℕ) → conditionOf (getD slots t noSlot) ≡ asleep n → kept ≤ n) → Quiet (t + 1) slots kept
-  more {kept} less at = record { asleep' = λ u n h e. go u n h e (equal? u t) }
-    where
-      go : (u n : ℕ) → u < t + 1 → conditionOf (getD slots u noSlot) ≡ asleep n → (u ≡ t) ⊎ (u ≢ t) → kept ≤ n
-      go u n h e (inl z) = at n (rw z at e)
-      go u n h e (inr d) = omega (arith, q .asleep' u n (omega arith) e)
+module _ (slots : List Slot) (n : ℕ) where
+  -- the soonest of these threads
+  abbrev soonestOf : List ℕ → ℕ
+  soonestOf l = soonest (map (λ t. conditionOf (getD slots t noSlot)) l)
 
-  sooner : {kept : ℕ} → getD slots t noSlot .value < first → kept ≡ getD slots t noSlot .value → Quiet (t + 1) slots kept
-  sooner h e = more (omega arith) (λ n a. omega (arith, sleeper (getD slots t noSlot) n a .1))
+  -- no number kept is above the greatest, so that the least of it and of those left is the least of all
+  record SoonestLeft (t first : ℕ) : Type 0 where
+    most : first ≤ lastWake
+    least : min first (soonestOf (left t n)) ≡ soonest (conditionsOf n slots)
 
-  no-sooner : {kept : ℕ} → (first ≤ getD slots t noSlot .value) ⊎ (getD slots t noSlot .state ≢ 2) → kept ≡ first → Quiet (t + 1) slots kept
-  no-sooner w e = more (omega arith) (λ n a. let s = sleeper (getD slots t noSlot) n a in ⊎-elim (λ h. omega arith) (λ d. absurd (d (s .0))) w)
+  none-seen : SoonestLeft 0 lastWake
+  none-seen = record { most = omega arith; least = omega (arith, begin soonestOf n, at-most-last (conditionsOf n slots)) }
+
+  all-seen : {t first : ℕ} → n ≤ t → SoonestLeft t first → first ≡ soonest (conditionsOf n slots)
+  all-seen {t} k inv = omega (arith, done soonestOf n t k, inv .most, inv .least)
+
+  module _ (t : ℕ) {first : ℕ} (h : t < n) (inv : SoonestLeft t first) where
+    abbrev slot : Slot
+    slot = getD slots t noSlot
+
+    turned : soonestOf (left t n) ≡ min (wakesAt (conditionOf slot)) (soonestOf (left (t + 1) n))
+    turned = turn soonestOf n t h
+
+    sooner : {kept : ℕ} → slot .state ≡ 2 → slot .value < first → kept ≡ slot .value → SoonestLeft (t + 1) kept
+    sooner a k e = record { most = omega (arith, inv .most); least = omega (arith, turned, wakes-asleep slot a, inv .least) }
+
+    no-sooner : {kept : ℕ} → ((slot .state ≡ 2) × (first ≤ slot .value)) ⊎ (slot .state ≢ 2) → kept ≡ first → SoonestLeft (t + 1) kept
+    no-sooner (inl k) e = record { most = omega (arith, inv .most); least = omega (arith, turned, wakes-asleep slot (k .0), k .1, inv .least) }
+    no-sooner (inr d) e = record { most = omega (arith, inv .most); least = omega (arith, turned, wakes-other slot d, inv .most, inv .least) }
 
 abbrev Inv-loop : tie.InvT-loop
-Inv-loop threads slots first₀ t₀ first t = (t ≤ threads) × Quiet t slots first
+Inv-loop threads slots first₀ t₀ first t = (t ≤ threads) × SoonestLeft slots threads t first
 
 abbrev μ-loop : tie.MeasureT-loop
 μ-loop threads slots first₀ t₀ first t = threads - t
 
 loop-holds : tie.Need-loop-holds Inv-loop μ-loop
-loop-holds c = (omega arith, record { asleep' = λ t n h e. absurd (omega arith) })
+loop-holds c = (omega arith, none-seen (c .args .t1) (c .args .threads))
 
 mul-s : tie.Need-mul-s Inv-loop μ-loop
 mul-s c = search needs
@@ -65,20 +76,21 @@ loop-again : tie.Need-loop-again Inv-loop μ-loop
 loop-again c =
     let k = c .before .before .before .before in
     let slots = k .before .args .t1 in
+    let n = k .before .args .threads in
     let t = k .loop .t in
     let q = k .loop .inv .1 in
-    let v = getD slots t noSlot .value in (
+    let v = getD slots t noSlot .value in
+    let h : t < n = omega arith in (
       omega arith,
-      ⊎-elim (λ w. sooner slots t q (ltb-true v (k .loop .first) (w .2 .taken)) (w .3))
-          (λ w. no-sooner slots t q (⊎-elim (λ u. inl (ltb-false v (k .loop .first) (u .2 .left))) (λ u. inr (u .left)) (w .0 .came)) (w .1))
+      ⊎-elim (λ w. sooner slots n t h q (w .0 .taken) (ltb-true v (k .loop .first) (w .2 .taken)) (w .3))
+          (λ w. no-sooner slots n t h q (⊎-elim (λ u. inl (u .0 .taken, ltb-false v (k .loop .first) (u .2 .left))) (λ u. inr (u .left)) (w .0 .came)) (w .1))
           (c .if1 .came),
     )
 
 returns : tie.Need-returns Inv-loop μ-loop
 returns c =
     let k = c .before in
-    let e : k .loop .t ≡ k .before .args .threads = omega arith in
-    rw e at (k .loop .inv .1)
+    all-seen (k .before .args .t1) (k .before .args .threads) (omega arith) (k .loop .inv .1)
 
 pub soonest-spec : {M : Type 1} → statement M
 soonest-spec = tie.close (tie.spec Inv-loop μ-loop loop-holds mul-s array-copy-out-s add-t loop-less loop-again returns)

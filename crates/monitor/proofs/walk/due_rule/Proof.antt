@@ -1,9 +1,9 @@
 -- `due_rule` meets its contract: 21 of a call, and of a report what the comparison with the first due says.
-use mathlib.Core.Path.{_≡_, ap, sym, _∙_}
+use mathlib.Core.Path.{ap, sym, _∙_}
 use mathlib.Core.Bool.{cond}
 use borrow.Author.Needs.{needs}
 use borrow.Author.Tests.{lt-ltb, le-ltb}
-use Prim.Native.Nat.{ℕ, _%_}
+use Prim.Native.Nat.{_%_}
 use Rattle.machine.specs.Rules.{reportRule}
 use Rattle.monitor.proofs.walk.due_rule.Statement.{statement}
 use Rattle.monitor.proofs.walk.due_rule.Tie as tie

@@ -1,32 +1,33 @@
 -- `walk` meets its contract. The loop's invariant: no rule is broken yet, from the state and record reached the run goes on to where it ends,
 -- and no sleeper wakes before the tick number that is kept. Each way through the loop is one of the cases that the machine's laws name.
 use mathlib.Core.Path.{_≡_, refl, ap, sym, subst, _∙_}
-use mathlib.Core.Logic.{_⊎_, inl, inr, ⊎-elim}
-use mathlib.Core.Bool.{true, _&&_}
+use mathlib.Core.Logic.{_⊎_, ⊎-elim}
+use mathlib.Core.Bool.{true, cond, _&&_}
 use mathlib.Core.List.{List}
-use Prim.Native.Nat.{ℕ, _+_, _-_, _%_, _≤_, _<_}
+use Prim.Native.Nat.{ℕ, _-_, _≤_, _<_}
 use native.Mathlib.Omega.{arith}
 use borrow.Author.Needs.{needs}
-use borrow.Author.Tests.{lt-ltb, le-ltb}
 use lib.Dec.{T, eqb, ltb, eqb→eq, ltb→lt}
 use lib.ListN.{length, length-set}
 use Rattle.model.specs.Records as records
-use Rattle.model.specs.Records.{Call, call, report}
-use Rattle.model.specs.Formed.{lastTick}
+use Rattle.model.specs.Records.{call, report}
 use Rattle.model.proofs.Tests.{from-true, and-left, and-right}
 use Rattle.plan.specs.declared.Plan.{Plan}
 use Rattle.machine.specs.declared.calls.Called.{Called}
+use Rattle.machine.specs.declared.Machine.{Machine}
+use Rattle.machine.specs.declared.reports.Report.{Report}
 use Rattle.machine.specs.declared.reports.Reports.{Reports}
 use Rattle.machine.specs.declared.slots.Slot.{Slot}
-use Rattle.machine.specs.Lists.{reportOf, noReport}
-use Rattle.machine.specs.Contracts.{reportsOf, Makes, Quiet}
+use Rattle.machine.specs.Lists.{reportOf}
+use Rattle.machine.specs.View.{conditionsOf}
+use Rattle.machine.specs.Contracts.{told, passed, soonest}
 use Rattle.machine.specs.Steps as machine
 use Rattle.machine.specs.Steps.{Steps, Settles, stateOf}
-use Rattle.machine.proofs.Laws.{due-size, called-size, due-fits, create-asked, caller-asked, take-asked, give-asked, tick-asked, tick-passes}
+use Rattle.machine.proofs.Laws.{Told, Passes, Quiet, told-told, passed-passes, known-quiet, due-size, called-size, due-fits, create-asked, caller-asked, take-asked, give-asked, tick-asked, tick-passes}
 use Rattle.dump.specs.Layout.{recordOf}
 use Rattle.dump.specs.Questions.{operandFits}
 use Rattle.dump.proofs.Laws.{entryAt}
-use Rattle.monitor.specs.Contracts.{dueRule, Walks, WalkEnds}
+use Rattle.monitor.specs.Contracts.{Walks, WalkEnds}
 use Rattle.monitor.proofs.Walking.{Walking, walk-begins, walk-ends, walk-reads, walk-record, walk-steps, walk-breaks, walk-moves}
 use Rattle.monitor.proofs.Turns.{due-breaks, due-given, Made, by-call, by-report, turn-breaks, turn-settles, turn-switched, turn-unswitched}
 use Rattle.monitor.proofs.walk.walk.Statement.{statement}
@@ -81,6 +82,16 @@ both {a} {b} {c} {d} e = let t = from-true (ltb a b && eqb c d) e in (ltb→lt a
 -- where plan and slots are those that came, nobody wakes before the same tick number
 still : {p p' : Plan} {slots slots' : List Slot} {until : ℕ} → p' ≡ p → slots' ≡ slots → Quiet (p .threads) slots until → Quiet (p' .threads) slots' until
 still e f q = rw (e, f) q
+
+-- what the calls in place hand back, by its equation
+is-told : {x c : Called} {given : Report} → x ≡ told c given → Told x c given
+is-told e = rw e (told-told _ _)
+
+is-passed : {x c : Called} → x ≡ passed c → Passes x c
+is-passed e = rw e (passed-passes _)
+
+kept-quiet : (m : Machine) (kind : ℕ) {until : ℕ} → until ≡ cond (eqb kind 7) (soonest (conditionsOf (m .plan .threads) (m .slots))) 0 → Quiet (m .plan .threads) (m .slots) until
+kept-quiet m kind e = rw e (known-quiet (m .plan .threads) (m .slots) (eqb kind 7))
 
 -- the first report due is in the array
 in-array : (c : tie.Then1 Inv-loop μ-loop) → c .before .before .before .loop .given < 17
@@ -236,7 +247,7 @@ loop-again c =
     ⊎-elim
     (λ w.
     rw (w .5, w .6, w .7, w .8, w .9)
-    (let t = w .4 .ensures in (
+    (let t = is-told (w .4 .ensures) in (
       w .3 .left,
       ap (λ (rs : Reports). length (rs .items)) (t .reports') ∙ v .1,
       still (t .plan') (t .slots') (v .2),
@@ -245,7 +256,7 @@ loop-again c =
     (⊎-elim
     (λ w.
     rw (w .6, w .7, w .8, w .9, w .10)
-    (let t = w .5 .ensures in
+    (let t = is-passed (w .5 .ensures) in
     let q = both (sym (w .3 .ensures) ∙ w .4 .taken) in (
       v .0,
       ap (λ (rs : Reports). length (rs .items)) (t .reports') ∙ v .1,
@@ -258,7 +269,7 @@ loop-again c =
     rw (w .12, w .13, w .14, w .15, w .16) (
       w .6 .left,
       length-set (m .match .c .reports) (m .match .c .count) _ ∙ made m .size,
-      w .8 .ensures,
+      kept-quiet (m .match .c .machine) (e .entry-at .result .kind) (w .8 .ensures),
       walk-moves (walks (l .before)) (v .3) h (turn-switched (l .loop .c) (l .loop .given) (steps e) (w .0 .left) (made m) (w .6 .left) (w .9 .ensures) (w .11 .taken)) refl,
     ))
     (λ w.
@@ -266,7 +277,7 @@ loop-again c =
     rw (w .12, w .13, w .14, w .15, w .16) (
       w .6 .left,
       made m .size,
-      w .8 .ensures,
+      kept-quiet (m .match .c .machine) (e .entry-at .result .kind) (w .8 .ensures),
       walk-moves (walks (l .before)) (v .3) h (turn-unswitched (l .loop .c) (l .loop .given) (steps e) (w .0 .left) (made m) (w .6 .left) (w .9 .ensures) (w .11 .left)) refl,
     ))))
     (c .if1 .came)
