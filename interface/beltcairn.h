@@ -68,28 +68,26 @@ struct Plan {
     uint16_t needs[16]; /* offset 32: the needs, bit s for section s, the first T in use */
 };
 
-/* The condition of a thread. 8 bytes. */
-struct Slot {
-    uint8_t state;  /* offset 0: 0 dormant, 1 ready, 2 asleep until a tick number, 3 waiting for a section */
-    uint32_t value; /* offset 4: that tick number or section; 0 where there is none */
+/* Words. A uint64_t marked as a word has sixteen numbers of four bits each, the first in the lowest four: entry i is (word >> 4 * i) & 15.
+ * Entries that are not in use mean nothing, whatever they have. */
+
+/* The conditions of the threads. 16 bytes. */
+struct Slots {
+    uint64_t states; /* offset 0: a word; entry t is 0 if thread t is dormant, 1 ready, 2 asleep, 3 waiting; the first T in use */
+    uint64_t wants;  /* offset 8: a word; entry t is the section that thread t waits for; in use where it waits */
 };
 
-/* Threads in order. 24 bytes. */
+/* Threads in order. 16 bytes. */
 struct Queue {
-    uint8_t items[16]; /* offset  0: the first `count` in use */
-    size_t count;      /* offset 16 */
+    uint64_t items; /* offset 0: a word; the first `count` in use */
+    size_t count;   /* offset 8: at most 16 */
 };
 
-/* A section and the thread that holds it. 2 bytes. */
-struct Hold {
-    uint8_t section; /* offset 0 */
-    uint8_t thread;  /* offset 1 */
-};
-
-/* The holds in order of taking. 40 bytes. */
+/* Sections and the threads that hold them, the latest taken first. 24 bytes. */
 struct Holds {
-    struct Hold items[16]; /* offset  0: the first `count` in use */
-    size_t count;          /* offset 32 */
+    uint64_t sections; /* offset  0: a word; the first `count` in use */
+    uint64_t threads;  /* offset  8: a word; entry i is the thread that holds the section of entry i above */
+    size_t count;      /* offset 16: at most 16 */
 };
 
 /* A report. 2 bytes. */
@@ -104,39 +102,40 @@ struct Reports {
     size_t count;            /* offset 40 */
 };
 
-/* What the machine remembers, but for the reports due. 296 bytes. */
+/* What the machine remembers, but for the reports due. 216 bytes. */
 struct Machine {
-    struct Plan plan;      /* offset   0 */
-    uint32_t tick;         /* offset  64: the tick number, Tick records so far */
-    struct Slot slots[16]; /* offset  68: the condition of each thread, the first T in use */
-    struct Queue queue;    /* offset 200: the line, the ready threads in order of arrival */
-    struct Holds holds;    /* offset 224 */
-    struct Queue waits;    /* offset 264: the waiting threads in order of their Take */
-    uint8_t reported;      /* offset 288: the thread of the latest Switch given, 255 for nobody */
+    struct Plan plan;   /* offset   0 */
+    uint32_t tick;      /* offset  64: the tick number, Tick records so far */
+    struct Slots slots; /* offset  72 */
+    uint32_t wakes[16]; /* offset  88: the tick number that each sleeper waits for; in use where a thread is asleep */
+    struct Queue queue; /* offset 152: the line, the ready threads in order of arrival */
+    struct Holds holds; /* offset 168 */
+    struct Queue waits; /* offset 192: the waiting threads in order of their Take */
+    uint8_t reported;   /* offset 208: the thread of the latest Switch given, 255 for nobody */
 };
 
-/* The machine and its reports. 352 bytes. */
+/* The machine and its reports. 272 bytes. */
 struct State {
     struct Machine machine; /* offset   0 */
-    struct Reports due;     /* offset 296: the reports of the latest call, in order */
-    size_t given;           /* offset 344: how many of them were given; those behind are due */
+    struct Reports due;     /* offset 216: the reports of the latest call, in order */
+    size_t given;           /* offset 264: how many of them were given; those behind are due */
 };
 
-/* The watch state. 360 bytes, aligned to 8. It holds no pointer, so it can be copied and kept. The bytes between its fields mean nothing:
- * compare states field by field. */
+/* The watch state. 280 bytes, aligned to 8. It holds no pointer, so it can be copied and kept. The bytes between its fields mean nothing:
+ * compare states field by field, as far as their entries are in use. */
 struct Watch {
     struct State state; /* offset   0 */
-    uint8_t rule;       /* offset 352: the rule of a breach that is stored, 0 if there is none */
+    uint8_t rule;       /* offset 272: the rule of a breach that is stored, 0 if there is none */
 };
 
 BELTCAIRN_ASSERT(sizeof(struct Plan) == 64);
-BELTCAIRN_ASSERT(sizeof(struct Slot) == 8);
-BELTCAIRN_ASSERT(sizeof(struct Queue) == 24);
-BELTCAIRN_ASSERT(sizeof(struct Holds) == 40);
+BELTCAIRN_ASSERT(sizeof(struct Slots) == 16);
+BELTCAIRN_ASSERT(sizeof(struct Queue) == 16);
+BELTCAIRN_ASSERT(sizeof(struct Holds) == 24);
 BELTCAIRN_ASSERT(sizeof(struct Reports) == 48);
-BELTCAIRN_ASSERT(sizeof(struct Machine) == 296);
-BELTCAIRN_ASSERT(sizeof(struct State) == 352);
-BELTCAIRN_ASSERT(sizeof(struct Watch) == 360);
+BELTCAIRN_ASSERT(sizeof(struct Machine) == 216);
+BELTCAIRN_ASSERT(sizeof(struct State) == 272);
+BELTCAIRN_ASSERT(sizeof(struct Watch) == 280);
 
 /*
  * The whole check of a plan and a dump.

@@ -40,17 +40,19 @@ static int filled(const uint8_t *bytes, size_t from, size_t to)
     return from == to;
 }
 
+static int same_lists(const struct Machine *a, const struct Machine *b)
+{
+    return a->queue.items == b->queue.items && a->queue.count == b->queue.count && a->holds.sections == b->holds.sections &&
+           a->holds.threads == b->holds.threads && a->holds.count == b->holds.count && a->waits.items == b->waits.items &&
+           a->waits.count == b->waits.count;
+}
+
 static int same_machine(const struct Machine *a, const struct Machine *b)
 {
-    int slots = 1;
-    for (int i = 0; i < 16; i++) {
-        slots = slots && a->slots[i].state == b->slots[i].state && a->slots[i].value == b->slots[i].value;
-    }
-    return slots && a->plan.threads == b->plan.threads && a->plan.sections == b->plan.sections &&
+    return a->plan.threads == b->plan.threads && a->plan.sections == b->plan.sections &&
            memcmp(a->plan.bases, b->plan.bases, 16) == 0 && memcmp(a->plan.needs, b->plan.needs, 32) == 0 && a->tick == b->tick &&
-           memcmp(a->queue.items, b->queue.items, 16) == 0 && a->queue.count == b->queue.count &&
-           memcmp(a->holds.items, b->holds.items, 32) == 0 && a->holds.count == b->holds.count &&
-           memcmp(a->waits.items, b->waits.items, 16) == 0 && a->waits.count == b->waits.count && a->reported == b->reported;
+           a->slots.states == b->slots.states && a->slots.wants == b->slots.wants && memcmp(a->wakes, b->wakes, 64) == 0 &&
+           same_lists(a, b) && a->reported == b->reported;
 }
 
 int same(const struct Watch *a, const struct Watch *b)

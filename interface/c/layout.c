@@ -13,29 +13,38 @@ enum { NOBODY = 255 };
 static void sizes_and_offsets(void)
 {
     SIZE(Plan, 64), AT(Plan, threads, 0), AT(Plan, sections, 8), AT(Plan, bases, 16), AT(Plan, needs, 32);
-    SIZE(Slot, 8), AT(Slot, state, 0), AT(Slot, value, 4);
-    SIZE(Queue, 24), AT(Queue, items, 0), AT(Queue, count, 16);
-    SIZE(Hold, 2), AT(Hold, section, 0), AT(Hold, thread, 1);
-    SIZE(Holds, 40), AT(Holds, items, 0), AT(Holds, count, 32);
+    SIZE(Slots, 16), AT(Slots, states, 0), AT(Slots, wants, 8);
+    SIZE(Queue, 16), AT(Queue, items, 0), AT(Queue, count, 8);
+    SIZE(Holds, 24), AT(Holds, sections, 0), AT(Holds, threads, 8), AT(Holds, count, 16);
     SIZE(Report, 2), AT(Report, kind, 0), AT(Report, who, 1);
     SIZE(Reports, 48), AT(Reports, items, 0), AT(Reports, count, 40);
-    SIZE(Machine, 296), AT(Machine, plan, 0), AT(Machine, tick, 64), AT(Machine, slots, 68), AT(Machine, queue, 200);
-    AT(Machine, holds, 224), AT(Machine, waits, 264), AT(Machine, reported, 288);
-    SIZE(State, 352), AT(State, machine, 0), AT(State, due, 296), AT(State, given, 344);
-    SIZE(Watch, 360), AT(Watch, state, 0), AT(Watch, rule, 352);
+    SIZE(Machine, 216), AT(Machine, plan, 0), AT(Machine, tick, 64), AT(Machine, slots, 72), AT(Machine, wakes, 88);
+    AT(Machine, queue, 152), AT(Machine, holds, 168), AT(Machine, waits, 192), AT(Machine, reported, 208);
+    SIZE(State, 272), AT(State, machine, 0), AT(State, due, 216), AT(State, given, 264);
+    SIZE(Watch, 280), AT(Watch, state, 0), AT(Watch, rule, 272);
     EXPECT("alignment", _Alignof(struct Watch) == 8);
 }
 
-/* One line of threads: their number, and the first three. */
-static int lists(const struct Queue *queue, size_t count, uint8_t first, uint8_t second, uint8_t third)
+/* Entry i of a word. */
+static uint64_t entry(uint64_t word, size_t i)
 {
-    const uint8_t named[3] = {first, second, third};
-    return queue->count == count && memcmp(queue->items, named, count < 3 ? count : 3) == 0;
+    return (word >> 4 * i) & 15;
 }
 
+/* One line of threads: their number, and the first three as a word. */
+static int lists(const struct Queue *queue, size_t count, uint64_t named)
+{
+    int as_named = queue->count == count;
+    for (size_t i = 0; i < count && i < 3; i++) {
+        as_named = as_named && entry(queue->items, i) == entry(named, i);
+    }
+    return as_named;
+}
+
+/* Hold i, from 0 for the latest. */
 static int holds(const struct Holds *holds, size_t i, uint8_t section, uint8_t thread)
 {
-    return i < holds->count && holds->items[i].section == section && holds->items[i].thread == thread;
+    return i < holds->count && entry(holds->sections, i) == section && entry(holds->threads, i) == thread;
 }
 
 static int owes(const struct State *state, size_t i, uint8_t kind, uint8_t who)
@@ -44,13 +53,23 @@ static int owes(const struct State *state, size_t i, uint8_t kind, uint8_t who)
     return state->given + i < state->due.count && report->kind == kind && report->who == who;
 }
 
-static int is_in(const struct Machine *m, int thread, uint8_t state, uint32_t value)
+static int is_in(const struct Machine *m, size_t thread, uint8_t state)
 {
-    return m->slots[thread].state == state && m->slots[thread].value == value;
+    return entry(m->slots.states, thread) == state;
 }
 
-/* The plan of 16 threads and 16 sections: thread i has priority i + 1 and needs section i. */
-static void largest_plan(void)
+static int sleeps_until(const struct Machine *m, size_t thread, uint32_t tick)
+{
+    return is_in(m, thread, ASLEEP) && m->wakes[thread] == tick;
+}
+
+static int waits_for(const struct Machine *m, size_t thread, uint8_t section)
+{
+    return is_in(m, thread, WAITING) && entry(m->slots.wants, thread) == section;
+}
+
+/* The watch state of 16 threads and 16 sections: thread i has priority i + 1 and needs section i. */
+static struct Watch largest(void)
 {
     uint8_t plan[50] = {16, 16};
     struct Watch watch;
@@ -60,10 +79,16 @@ static void largest_plan(void)
         plan[18 + 2 * i + i / 8] = (uint8_t)(1 << i % 8);
     }
     EXPECT("largest plan", beltcairn_begin(plan, sizeof plan, &watch) == 0);
+    return watch;
+}
+
+static void largest_plan(void)
+{
+    const struct Watch watch = largest();
     const struct Machine *m = &watch.state.machine;
     EXPECT("largest plan", m->plan.threads == 16 && m->plan.sections == 16);
     for (int i = 0; i < 16; i++) {
-        EXPECT("largest plan", m->plan.bases[i] == i + 1 && m->plan.needs[i] == 1 << i && is_in(m, i, DORMANT, 0));
+        EXPECT("largest plan", m->plan.bases[i] == i + 1 && m->plan.needs[i] == 1 << i && is_in(m, (size_t)i, DORMANT));
     }
     EXPECT("largest plan", m->tick == 0 && m->queue.count == 0 && m->holds.count == 0 && m->waits.count == 0 && m->reported == NOBODY);
     EXPECT("largest plan", watch.state.due.count == 0 && watch.state.given == 0 && watch.rule == 0);
@@ -74,6 +99,36 @@ static void step(struct Watch *watch, uint8_t kind, uint16_t operand, uint64_t d
     uint64_t told = KEPT;
     EXPECT("step", beltcairn_step(watch, kind, operand, &told) == 0);
     EXPECT("step", told == due);
+}
+
+/* Sixteen threads start, each more urgent than those before it: every entry of the line is in use. */
+static void all_threads_in_the_line(void)
+{
+    struct Watch watch = largest();
+    const struct Machine *m = &watch.state.machine;
+    for (uint16_t i = 0; i < 16; i++) {
+        step(&watch, CREATE, i, 2), step(&watch, READY, i, 1), step(&watch, SWITCH, i, 0);
+    }
+    EXPECT("all threads", m->queue.items == 0xfedcba9876543210u && m->queue.count == 16 && m->slots.states == 0x1111111111111111u);
+    step(&watch, END, 0, 1);
+    EXPECT("all threads", m->queue.count == 15 && m->queue.items << 4 == 0xedcba98765432100u && m->slots.states == 0x0111111111111111u);
+}
+
+/* One thread takes sixteen sections: every entry of the holds is in use, the latest first. */
+static void all_sections_held(void)
+{
+    static const uint8_t plan[5] = {1, 16, 1, 0xff, 0xff};
+    struct Watch watch;
+    const struct Holds *held = &watch.state.machine.holds;
+    memset(&watch, 0, sizeof watch);
+    EXPECT("all sections", beltcairn_begin(plan, sizeof plan, &watch) == 0);
+    step(&watch, CREATE, 0, 2), step(&watch, READY, 0, 1), step(&watch, SWITCH, 0, 0);
+    for (uint16_t i = 0; i < 16; i++) {
+        step(&watch, TAKE, i, 1), step(&watch, WON, 0, 0);
+    }
+    EXPECT("all sections", held->sections == 0x0123456789abcdefu && held->threads == 0 && held->count == 16);
+    step(&watch, GIVE, 15, 0);
+    EXPECT("all sections", held->sections << 4 == 0x0123456789abcde0u && held->threads << 4 == 0 && held->count == 15);
 }
 
 /* Run A up to its first Lost, and to its end: thread 2 waits for the section that thread 0 holds, and is handed it. */
@@ -90,14 +145,14 @@ static void states_of_run_a(void)
     step(&watch, TAKE, 0, 1), step(&watch, WON, 0, 0);
     step(&watch, CREATE, 2, 2), step(&watch, READY, 2, 1), step(&watch, SWITCH, 2, 0);
     step(&watch, TAKE, 0, 2), step(&watch, LOST, 2, 1);
-    EXPECT("run A", lists(&m->queue, 1, 0, 0, 0) && lists(&m->waits, 1, 2, 0, 0) && m->holds.count == 1 && holds(&m->holds, 0, 0, 0));
-    EXPECT("run A", is_in(m, 0, IS_READY, 0) && is_in(m, 1, DORMANT, 0) && is_in(m, 2, WAITING, 0));
+    EXPECT("run A", lists(&m->queue, 1, 0x0) && lists(&m->waits, 1, 0x2) && m->holds.count == 1 && holds(&m->holds, 0, 0, 0));
+    EXPECT("run A", is_in(m, 0, IS_READY) && is_in(m, 1, DORMANT) && waits_for(m, 2, 0));
     EXPECT("run A", m->reported == 2 && m->tick == 0 && owes(&watch.state, 0, SWITCH, 0) && !owes(&watch.state, 1, 0, 0));
     step(&watch, SWITCH, 0, 0), step(&watch, CREATE, 1, 1), step(&watch, READY, 1, 0), step(&watch, GIVE, 0, 3);
     EXPECT("run A", owes(&watch.state, 0, WON, 2) && owes(&watch.state, 1, READY, 2) && owes(&watch.state, 2, SWITCH, 2) && m->reported == 0);
     step(&watch, WON, 2, 2), step(&watch, READY, 2, 1), step(&watch, SWITCH, 2, 0);
-    EXPECT("run A", lists(&m->queue, 3, 0, 1, 2) && m->waits.count == 0 && m->holds.count == 1 && holds(&m->holds, 0, 0, 2));
-    EXPECT("run A", is_in(m, 0, IS_READY, 0) && is_in(m, 1, IS_READY, 0) && is_in(m, 2, IS_READY, 0) && m->reported == 2 && watch.rule == 0);
+    EXPECT("run A", lists(&m->queue, 3, 0x210) && m->waits.count == 0 && m->holds.count == 1 && holds(&m->holds, 0, 0, 2));
+    EXPECT("run A", is_in(m, 0, IS_READY) && is_in(m, 1, IS_READY) && is_in(m, 2, IS_READY) && m->reported == 2 && watch.rule == 0);
 }
 
 /* One thread holds sections 0 and then 1, gives them back in turn and sleeps: until tick number 0 + 300 + 1. Then a Ready that is not due. */
@@ -111,9 +166,9 @@ static void states_of_one_thread(void)
     EXPECT("one thread", beltcairn_begin(plan, sizeof plan, &watch) == 0);
     step(&watch, CREATE, 0, 2), step(&watch, READY, 0, 1), step(&watch, SWITCH, 0, 0);
     step(&watch, TAKE, 0, 1), step(&watch, WON, 0, 0), step(&watch, TAKE, 1, 1), step(&watch, WON, 0, 0);
-    EXPECT("one thread", m->holds.count == 2 && holds(&m->holds, 0, 0, 0) && holds(&m->holds, 1, 1, 0));
+    EXPECT("one thread", m->holds.count == 2 && holds(&m->holds, 0, 1, 0) && holds(&m->holds, 1, 0, 0));
     step(&watch, GIVE, 1, 0), step(&watch, GIVE, 0, 0), step(&watch, DELAY, 300, 1);
-    EXPECT("one thread", m->holds.count == 0 && m->queue.count == 0 && is_in(m, 0, ASLEEP, 301) && owes(&watch.state, 0, SWITCH, NOBODY));
+    EXPECT("one thread", m->holds.count == 0 && m->queue.count == 0 && sleeps_until(m, 0, 301) && owes(&watch.state, 0, SWITCH, NOBODY));
     step(&watch, SWITCH, 65535, 0), step(&watch, TICK, 0, 0);
     EXPECT("one thread", m->tick == 1 && m->reported == NOBODY && watch.rule == 0);
     EXPECT("one thread", beltcairn_step(&watch, READY, 0, &due) == 28 && due == KEPT);
@@ -131,27 +186,54 @@ static struct Watch made(void)
     memcpy(m->plan.bases, (const uint8_t[]){1, 2, 3}, 3);
     memcpy(m->plan.needs, (const uint16_t[]){1, 0, 1}, 6);
     m->tick = 7;
-    m->slots[0].state = IS_READY;
-    m->slots[1].state = ASLEEP;
-    m->slots[1].value = 9;
-    m->slots[2].state = WAITING;
+    m->slots.states = IS_READY | ASLEEP << 4 | WAITING << 8;
+    m->wakes[1] = 9;
     m->queue.count = 1;
     m->holds.count = 1;
-    m->waits.items[0] = 2;
+    m->waits.items = 2;
     m->waits.count = 1;
     return watch;
 }
 
-static void clean_lent_state(void)
+/* `made` with this number in every entry of a word that is not in use, and this tick number with every thread that is not asleep. */
+static struct Watch made_with_unused(uint64_t number, uint32_t tick)
 {
     struct Watch watch = made();
+    struct Machine *m = &watch.state.machine;
+    const uint64_t filled = number * 0x1111111111111111u, behind_first = filled << 4;
+    m->slots.states |= filled << 12;
+    m->slots.wants |= filled << 12 | (filled & 0xff); /* but for thread 2, which waits */
+    m->queue.items |= behind_first;
+    m->holds.sections |= behind_first;
+    m->holds.threads |= behind_first;
+    m->waits.items |= behind_first;
+    for (int i = 0; i < 16; i++) {
+        m->wakes[i] = i == 1 ? 9 : tick;
+    }
+    return watch;
+}
+
+/* Two Ticks wake thread 1, and a Give hands the section to thread 2. */
+static void clean_lent_state(struct Watch watch)
+{
     const struct Machine *m = &watch.state.machine;
     step(&watch, TICK, 0, 0);
-    EXPECT("lent", m->tick == 8 && is_in(m, 1, ASLEEP, 9) && lists(&m->queue, 1, 0, 0, 0));
+    EXPECT("lent", m->tick == 8 && sleeps_until(m, 1, 9) && lists(&m->queue, 1, 0x0));
     step(&watch, TICK, 0, 1);
-    EXPECT("lent", m->tick == 9 && is_in(m, 1, IS_READY, 0) && lists(&m->queue, 2, 0, 1, 0) && owes(&watch.state, 0, READY, 1));
+    EXPECT("lent", m->tick == 9 && is_in(m, 1, IS_READY) && lists(&m->queue, 2, 0x10) && owes(&watch.state, 0, READY, 1));
     step(&watch, READY, 1, 0), step(&watch, GIVE, 0, 3);
-    EXPECT("lent", holds(&m->holds, 0, 0, 2) && m->waits.count == 0 && lists(&m->queue, 3, 0, 1, 2) && owes(&watch.state, 2, SWITCH, 2));
+    EXPECT("lent", m->holds.count == 1 && holds(&m->holds, 0, 0, 2) && m->waits.count == 0 && lists(&m->queue, 3, 0x210));
+    EXPECT("lent", is_in(m, 0, IS_READY) && is_in(m, 1, IS_READY) && is_in(m, 2, IS_READY) && owes(&watch.state, 2, SWITCH, 2));
+}
+
+static void clean_lent_states(void)
+{
+    clean_lent_state(made());
+    for (uint64_t number = 0; number < 16; number++) {
+        clean_lent_state(made_with_unused(number, 8));
+        clean_lent_state(made_with_unused(number, 9));
+        clean_lent_state(made_with_unused(number, UINT32_MAX));
+    }
 }
 
 static void refused_step(struct Watch watch, uint8_t answer, uint8_t kind, uint16_t operand)
@@ -173,17 +255,24 @@ static void ill_formed_states(void)
     ILL(watch.state.machine.plan.bases[1] = 65);
     ILL(watch.state.machine.plan.needs[2] = 2);
     ILL(watch.state.machine.tick = 4000000001u);
-    ILL(watch.state.machine.slots[1].value = 4000065537u);
-    ILL(watch.state.machine.slots[1].state = 4);
-    ILL(watch.state.machine.slots[2].value = 1);
-    ILL(watch.state.machine.queue.items[0] = 3);
+    ILL(watch.state.machine.wakes[1] = 4000065537u);
+    ILL(watch.state.machine.slots.states = 0x341); /* thread 1 in no condition */
+    ILL(watch.state.machine.slots.states = 0x361);
+    ILL(watch.state.machine.slots.states = 0x325); /* thread 0, which stands in the line */
+    ILL(watch.state.machine.slots.states = 0xb21); /* thread 2, which stands in the waits */
+    ILL(watch.state.machine.slots.wants = 0x100);
+    ILL(watch.state.machine.queue.items = 3);
     ILL(watch.state.machine.queue.count = 2); /* thread 0 twice */
+    ILL(watch.state.machine.queue.count = 17);
     ILL(watch.state.machine.queue.count = SIZE_MAX);
     ILL(watch.state.machine.queue.count = 0); /* thread 0 is ready and not in the line */
-    ILL(watch.state.machine.waits.items[0] = 0);
+    ILL(watch.state.machine.waits.items = 0);
+    ILL(watch.state.machine.waits.items = 3);
+    ILL(watch.state.machine.waits.count = 17);
     ILL(watch.state.machine.holds.count = 2); /* section 0 twice */
-    ILL(watch.state.machine.holds.items[0].section = 1);
-    ILL(watch.state.machine.holds.items[0].thread = 3);
+    ILL(watch.state.machine.holds.count = 17);
+    ILL(watch.state.machine.holds.sections = 1);
+    ILL(watch.state.machine.holds.threads = 3);
     ILL(watch.state.machine.reported = 3);
     ILL(watch.state.due.count = 1); /* a report of kind 0 */
     ILL(watch.state.due.count = SIZE_MAX);
@@ -209,7 +298,7 @@ static void refused_steps(void)
     refused_step(watch, 13, TICK, 0);
     EXPECT("stored", beltcairn_step(&watch, RELINQUISH, 0, &due) == 25 && due == KEPT && watch.rule == 25);
     watch.rule = 0;
-    watch.state.machine.slots[1].value = 4000065536u;
+    watch.state.machine.wakes[1] = 4000065536u;
     step(&watch, RELINQUISH, 0, 0);
     watch.state.machine.tick = 3999999999u;
     step(&watch, TICK, 0, 0);
@@ -222,7 +311,9 @@ void check_layout(void)
     largest_plan();
     states_of_run_a();
     states_of_one_thread();
-    clean_lent_state();
+    all_threads_in_the_line();
+    all_sections_held();
+    clean_lent_states();
     ill_formed_states();
     refused_steps();
 }

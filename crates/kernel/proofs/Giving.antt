@@ -5,7 +5,7 @@ use mathlib.Core.Option.{Option, some}
 use Prim.Native.Nat.{ℕ, _≤_, _<_}
 use native.Mathlib.Omega.{arith}
 use lib.Dec.{T, ltb→lt}
-use lib.ListN.{length, getD}
+use lib.ListN.{length}
 use Rattle.model.specs.Searches.{_▷_}
 use Rattle.model.specs.Plan.{Plan, threads}
 use Rattle.model.specs.Records.{Report, Ready, Switch, Won, Lost, Yield, report, isThread, allowed}
@@ -13,15 +13,14 @@ use Rattle.model.specs.State.{State, switchedTo, latestSwitch, setReported, set
 use Rattle.model.specs.Runs.{deliver}
 use Rattle.model.specs.Formed.{formed}
 use Rattle.model.specs.Bench.{deliverAll}
-use Rattle.model.proofs.Laws.{WellFormed, well-formed, passes-all}
+use Rattle.model.proofs.Laws.{WellFormed, passes-all}
 use Rattle.plan.specs.View as plans
 use Rattle.plan.specs.declared.Plan as declared
-use Rattle.plan.proofs.Loops.{length-listed}
-use Rattle.plan.proofs.Laws.{threads-view}
 use Rattle.machine.specs.declared.state.State as code
 use Rattle.machine.specs.declared.reports.Report as reports
 use Rattle.machine.specs.Lists.{reportOf}
-use Rattle.machine.specs.View.{conditionOf, noSlot, planOf, view}
+use Rattle.machine.specs.View.{planOf, view}
+use Rattle.machine.proofs.Laws.{formed-facts}
 use Rattle.machine.specs.Steps.{Owes, FirstDue, Delivers}
 use Rattle.kernel.specs.Contracts.{Settles}
 
@@ -65,12 +64,6 @@ given-none st q = λ i. st ▷ setReported (latestSwitch (st .reported) (q i)) �
 abbrev pub IsFormed : code.State → Type 0
 IsFormed s = T (formed (planOf (s .machine)) (view s))
 
--- a state stands for one with a condition for each thread
-facts : (s : code.State) → IsFormed s → WellFormed (planOf (s .machine)) (view s)
-facts s f =
-    let m = s .machine in
-    well-formed (planOf m) (view s) (length-listed (λ t. conditionOf (getD (m .slots) t noSlot)) (m .plan .threads) ∙ sym (threads-view (m .plan))) f
-
 -- some of the reports that were due in the first state are given, and with the others given it will be settled
 pub record Giving (first s : code.State) : Type 0 where
   pub formed' : IsFormed s
@@ -95,7 +88,7 @@ module _ {first s : code.State} (g : Giving first s) where
         record {
           formed' =
               subst (λ (q : declared.Plan). T (formed (plans.view q) (view s'))) (sym (d .plan'))
-              (subst (λ (x : State). T (formed p x)) (sym (d .seen)) (passes-all p st (given-formed p (view s) (reportOf r) (f .first) (facts s (g .formed')))));
+              (subst (λ (x : State). T (formed p x)) (sym (d .seen)) (passes-all p st (given-formed p (view s) (reportOf r) (f .first) (formed-facts s (g .formed')))));
           plan' = d .plan' ∙ g .plan';
           left = ap deliverAll (d .seen) ∙ given-all p (view s) (reportOf r) (f .first) ∙ g .left;
         }

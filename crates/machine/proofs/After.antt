@@ -20,34 +20,38 @@ use Rattle.plan.specs.declared.Plan.{Plan}
 use Rattle.plan.proofs.Laws.{threads-view}
 use Rattle.machine.specs.declared.Machine.{Machine}
 use Rattle.machine.specs.declared.calls.Called.{Called}
-use Rattle.machine.specs.Lists.{queued, held}
+use Rattle.lists.specs.Lists.{queued, held}
 use Rattle.machine.specs.View.{planOf, idle, view}
 use Rattle.machine.specs.Contracts.{Ticks, Ceilings, Chooses, reportsOf}
 use Rattle.machine.specs.Steps.{Settles}
 use Rattle.machine.proofs.Admitted.{Creates, Runs, Takes, Gives, Meets}
 use Rattle.machine.proofs.Facts.{Facts, facts}
-use Rattle.machine.proofs.Views.{length-queued, length-held, length-owed}
-use Rattle.machine.proofs.Room.{waiting-known, threads-fit, waiting-fits, waiting-room, woken-room, create-room, caller-fits, without-room, waits-room, take-room, give-room}
+use Rattle.lists.proofs.Laws.{length-queued, length-held}
+use Rattle.machine.proofs.Views.{length-owed}
+use Rattle.machine.proofs.Room.{waiting-known, threads-fit, waiting-room, woken-room, create-room, caller-known, without-room, waits-room, take-room, give-room}
 use Rattle.machine.proofs.Chosen.{listed}
 
--- the lists fit their arrays, fewer than 17 reports are due, and none of them is a Switch: the thread last reported is still the one reported
-pub record After (st : State) : Type 0 where
+-- the lists fit their words and name threads, fewer than 17 reports are due, and none of them is a Switch: the thread last reported is still
+-- the one reported
+pub record After (threads : ℕ) (st : State) : Type 0 where
   pub queue' : length (st .queue) ≤ 16
   pub holds' : length (st .holds) ≤ 16
   pub waits' : length (st .waits) ≤ 16
-  pub known : (t : ℕ) → Mem t (st .queue) → t < 16
+  pub known : (t : ℕ) → Mem t (st .queue) → t < threads
+  pub waiting' : (t : ℕ) → Mem t (st .waits) → t < threads
   pub few : length (st .due) < 17
   pub last : lastReported st ≡ st .reported
 
 -- the lists fit before the call, with nothing due
-before : {m : Machine} → Facts m → After (idle m)
+before : {m : Machine} → Facts m → After (m .plan .threads) (idle m)
 before {m} f =
     let l = listed f in
     record {
-      queue' = omega (arith, length-queued (m .queue), l .queue');
-      holds' = omega (arith, length-held (m .holds), l .holds');
-      waits' = omega (arith, length-queued (m .waits), l .waits');
+      queue' = omega (arith, length-queued (m .queue), l .counts .queue');
+      holds' = omega (arith, length-held (m .holds), l .counts .holds');
+      waits' = omega (arith, length-queued (m .waits), l .counts .waits');
       known = l .known;
+      waiting' = l .waiting';
       few = omega arith;
       last = refl;
     }
@@ -57,22 +61,22 @@ before {m} f =
 one-longer : (l : List ℕ) (t : ℕ) → length l < 16 → length (l ++ t ∷ []) ≤ 16
 one-longer l t h = omega (arith, length-append l (t ∷ []))
 
-known-more : (l more : List ℕ) → ((t : ℕ) → Mem t l → t < 16) → ((t : ℕ) → Mem t more → t < 16) → (t : ℕ) → Mem t (l ++ more) → t < 16
-known-more l more old new t i = go (append-cases l i)
+known-more : (n : ℕ) (l more : List ℕ) → ((t : ℕ) → Mem t l → t < n) → ((t : ℕ) → Mem t more → t < n) → (t : ℕ) → Mem t (l ++ more) → t < n
+known-more n l more old new t i = go (append-cases l i)
   where
-    go : Mem t l ⊎ Mem t more → t < 16
+    go : Mem t l ⊎ Mem t more → t < n
     go (inl j) = old t j
     go (inr j) = new t j
 
-known-one : (u : ℕ) → u < 16 → (t : ℕ) → Mem t (u ∷ []) → t < 16
-known-one u h t i = omega (arith, single i)
+known-one : (n u : ℕ) → u < n → (t : ℕ) → Mem t (u ∷ []) → t < n
+known-one n u h t i = omega (arith, single i)
 
 -- what a test leaves, by both its answers
-either : (b : Bool) {yes other : State} → (T b → After yes) → (T (not b) → After other) → After (cond b yes other)
+either : (b : Bool) {n : ℕ} {yes other : State} → (T b → After n yes) → (T (not b) → After n other) → After n (cond b yes other)
 either true y n = y tt
 either false y n = n tt
 
-pub created : {m : Machine} {t : ℕ} → Creates m t → After (create t (idle m))
+pub created : {m : Machine} {t : ℕ} → Creates m t → After (m .plan .threads) (create t (idle m))
 unfolding create
 created {m} {t} c =
     let f = facts (c .formed) in
@@ -80,7 +84,8 @@ created {m} {t} c =
       queue' = one-longer (queued (m .queue)) t (omega (arith, length-queued (m .queue), create-room c));
       holds' = before f .holds';
       waits' = before f .waits';
-      known = known-more (queued (m .queue)) (t ∷ []) (before f .known) (known-one t (omega (arith, c .known, f .fits .threads)));
+      known = known-more (m .plan .threads) (queued (m .queue)) (t ∷ []) (before f .known) (known-one (m .plan .threads) t (c .known));
+      waiting' = before f .waiting';
       few = omega arith;
       last = refl;
     }
@@ -90,7 +95,7 @@ all-ready : (w : Option ℕ) (ts : List ℕ) → latestSwitch w (map Ready ts) �
 all-ready w [] = refl
 all-ready w (t ∷ ts) = all-ready w ts
 
-pub ticked : {m : Machine} → Ticks m → After (tick (idle m))
+pub ticked : {m : Machine} → Ticks m → After (m .plan .threads) (tick (idle m))
 unfolding tick
 ticked {m} c =
     let f = facts (c .formed) in
@@ -100,76 +105,80 @@ ticked {m} c =
       queue' = omega (arith, length-append (queued (m .queue)) woken, room);
       holds' = before f .holds';
       waits' = before f .waits';
-      known = known-more (queued (m .queue)) woken (before f .known) (λ t i. omega (arith, sleeper (suc (m .tick .0)) (idle m) t i .0, f .agree .sized, threads-view (m .plan), f .fits .threads));
+      known = known-more (m .plan .threads) (queued (m .queue)) woken (before f .known) (λ t i. omega (arith, sleeper (suc (m .tick .0)) (idle m) t i .0, f .agree .sized, threads-view (m .plan)));
+      waiting' = before f .waiting';
       few = omega (arith, length-map woken Ready, room);
       last = all-ready (idle m .reported) woken;
     }
 
 module _ {m : Machine} {x : ℕ} (r : Runs m x) where
-  known-without : (t : ℕ) → Mem t (without x (queued (m .queue))) → t < 16
+  known-without : (t : ℕ) → Mem t (without x (queued (m .queue))) → t < m .plan .threads
   known-without t i = before (facts (r .formed)) .known t (stayed x (queued (m .queue)) i .0)
 
   queue-without : length (without x (queued (m .queue))) ≤ 16
   queue-without = omega (arith, without-room r)
 
   -- the caller leaves the queue, and no report is due
-  leaves : (c : Condition) → After (idle m ▷ leaveQueue x ▷ becomes c x)
+  leaves : (c : Condition) → After (m .plan .threads) (idle m ▷ leaveQueue x ▷ becomes c x)
   leaves c =
       let f = facts (r .formed) in
-      record { queue' = queue-without; holds' = before f .holds'; waits' = before f .waits'; known = known-without; few = omega arith; last = refl }
+      record { queue' = queue-without; holds' = before f .holds'; waits' = before f .waits'; known = known-without; waiting' = before f .waiting'; few = omega arith; last = refl }
 
-  pub delayed : (n : ℕ) → After (delay x n (idle m))
+  pub delayed : (n : ℕ) → After (m .plan .threads) (delay x n (idle m))
   unfolding delay
   delayed n = leaves (asleep (m .tick .0 + n + 1))
 
-  pub ended : After (end x (idle m))
+  pub ended : After (m .plan .threads) (end x (idle m))
   unfolding end
   ended = leaves dormant
 
-  pub relinquished : After (relinquish (planOf m) x (idle m))
+  pub relinquished : After (m .plan .threads) (relinquish (planOf m) x (idle m))
   unfolding relinquish
   relinquished = either (rivalled (planOf m) x (idle m)) (λ b. yields) (λ b. before (facts (r .formed)))
     where
-      yields : After (idle m ▷ leaveQueue x ▷ joinQueue x ▷ owe (Yield x ∷ []))
+      yields : After (m .plan .threads) (idle m ▷ leaveQueue x ▷ joinQueue x ▷ owe (Yield x ∷ []))
       yields =
           let f = facts (r .formed) in
           record {
             queue' = one-longer (without x (queued (m .queue))) x (without-room r);
             holds' = before f .holds';
             waits' = before f .waits';
-            known = known-more (without x (queued (m .queue))) (x ∷ []) known-without (known-one x (caller-fits r));
+            known = known-more (m .plan .threads) (without x (queued (m .queue))) (x ∷ []) known-without (known-one (m .plan .threads) x (caller-known r));
+            waiting' = before f .waiting';
             few = omega arith;
             last = refl;
           }
 
-pub taken : {m : Machine} {x s : ℕ} → Takes m x s → After (take (planOf m) x s (idle m))
+pub taken : {m : Machine} {x s : ℕ} → Takes m x s → After (m .plan .threads) (take (planOf m) x s (idle m))
 unfolding take
 taken {m} {x} {s} t = either (aboveAll (planOf m) x (heldByOthers x (held (m .holds)))) wins (λ b. loses)
   where
     f : Facts m
     f = facts (t .runs .formed)
 
-    wins : T (aboveAll (planOf m) x (heldByOthers x (held (m .holds)))) → After (idle m ▷ beginHold s x ▷ owe (Won x ∷ []))
+    wins : T (aboveAll (planOf m) x (heldByOthers x (held (m .holds)))) → After (m .plan .threads) (idle m ▷ beginHold s x ▷ owe (Won x ∷ []))
     wins b = record {
       queue' = before f .queue';
       holds' = omega (arith, length-held (m .holds), take-room t b);
       waits' = before f .waits';
       known = before f .known;
+      waiting' = before f .waiting';
       few = omega arith;
       last = refl;
     }
 
-    loses : After (idle m ▷ leaveQueue x ▷ becomes (waiting s) x ▷ joinWaits x ▷ owe (Lost x ∷ []))
+    loses : After (m .plan .threads) (idle m ▷ leaveQueue x ▷ becomes (waiting s) x ▷ joinWaits x ▷ owe (Lost x ∷ []))
     loses = record {
       queue' = queue-without (t .runs);
       holds' = before f .holds';
       waits' = one-longer (queued (m .waits)) x (omega (arith, length-queued (m .waits), waits-room (t .runs)));
       known = known-without (t .runs);
+      waiting' = known-more (m .plan .threads) (queued (m .waits)) (x ∷ []) (before f .waiting') (known-one (m .plan .threads) x (caller-known (t .runs)));
       few = omega arith;
       last = refl;
     }
 
-pub given : {m : Machine} {x s : ℕ} → Gives m x s → After (give (planOf m) x s (idle m))
+pub given : {m : Machine} {x s : ℕ} → Gives m x s → After (m .plan .threads) (give (planOf m) x s (idle m))
 unfolding give
 given {m} {x} {s} g = handed (heir (planOf m) (idle m)) (λ w e. greatest-is (base (planOf m)) (queued (m .waits)) w e .0)
   where
@@ -177,23 +186,24 @@ given {m} {x} {s} g = handed (heir (planOf m) (idle m)) (λ w e. greatest-is (ba
     f = facts (g .runs .formed)
 
     -- the hold has ended, and the heir does not inherit
-    frees : After (idle m ▷ endHold s x)
-    frees = record { queue' = before f .queue'; holds' = omega (arith, give-room g); waits' = before f .waits'; known = before f .known; few = omega arith; last = refl }
+    frees : After (m .plan .threads) (idle m ▷ endHold s x)
+    frees = record { queue' = before f .queue'; holds' = omega (arith, give-room g); waits' = before f .waits'; known = before f .known; waiting' = before f .waiting'; few = omega arith; last = refl }
 
-    refuses : (w : ℕ) → After (idle m ▷ endHold s x ▷ owe (Lost w ∷ []))
-    refuses w = record { queue' = frees .queue'; holds' = frees .holds'; waits' = frees .waits'; known = frees .known; few = omega arith; last = refl }
+    refuses : (w : ℕ) → After (m .plan .threads) (idle m ▷ endHold s x ▷ owe (Lost w ∷ []))
+    refuses w = record { queue' = frees .queue'; holds' = frees .holds'; waits' = frees .waits'; known = frees .known; waiting' = frees .waiting'; few = omega arith; last = refl }
 
-    passes : (w : ℕ) → Mem w (queued (m .waits)) → After (idle m ▷ endHold s x ▷ leaveWaits w ▷ beginHold (wanted (condition (idle m) w)) w ▷ arrive (w ∷ []) ▷ owe (Won w ∷ Ready w ∷ []))
+    passes : (w : ℕ) → Mem w (queued (m .waits)) → After (m .plan .threads) (idle m ▷ endHold s x ▷ leaveWaits w ▷ beginHold (wanted (condition (idle m) w)) w ▷ arrive (w ∷ []) ▷ owe (Won w ∷ Ready w ∷ []))
     passes w i = record {
       queue' = one-longer (queued (m .queue)) w (omega (arith, length-queued (m .queue), waiting-room f w i));
       holds' = omega (arith, give-room g);
       waits' = threads-fit f (without w (queued (m .waits))) (distinct-without w (queued (m .waits)) (f .agree .waitsOnce)) (λ t j. waiting-known f t (stayed w (queued (m .waits)) j .0));
-      known = known-more (queued (m .queue)) (w ∷ []) (before f .known) (known-one w (waiting-fits f w i));
+      known = known-more (m .plan .threads) (queued (m .queue)) (w ∷ []) (before f .known) (known-one (m .plan .threads) w (waiting-known f w i));
+      waiting' = λ t j. waiting-known f t (stayed w (queued (m .waits)) j .0);
       few = omega arith;
       last = refl;
     }
 
-    handed : (o : Option ℕ) → ((w : ℕ) → o ≡ some w → Mem w (queued (m .waits))) → After (handOver (planOf m) o (idle m ▷ endHold s x))
+    handed : (o : Option ℕ) → ((w : ℕ) → o ≡ some w → Mem w (queued (m .waits))) → After (m .plan .threads) (handOver (planOf m) o (idle m ▷ endHold s x))
     handed none waits = frees
     handed (some w) waits = either (aboveAll (planOf m) w (filter (λ h. not (isHold s x h)) (held (m .holds)))) (λ b. passes w (waits w refl)) (λ b. refuses w)
 
@@ -202,27 +212,29 @@ given {m} {x} {s} g = handed (heir (planOf m) (idle m)) (λ w e. greatest-is (ba
 plan-kept : {m : Machine} {st : State} (r : Called) → Meets r m st → planOf (r .machine) ≡ planOf m
 plan-kept r k = ap plans.view (k .plan')
 
-queue-known : {m : Machine} {st : State} (r : Called) → Meets r m st → After st → (t : ℕ) → Mem t (queued (r .machine .queue)) → t < 16
-queue-known r k a t i = a .known t (subst (λ (l : List ℕ). Mem t l) (ap (λ (z : State). z .queue) (k .seen)) i)
-
 -- it has what finding the chosen thread asks
-chooses : {m : Machine} {st : State} (r : Called) → Facts m → Meets r m st → After st → (ceilings : List ℕ) → Ceilings m ceilings → Chooses (r .machine) ceilings
-chooses r f k a ceilings c =
+chooses : {m : Machine} {st : State} (r : Called) → Facts m → Meets r m st → After (m .plan .threads) st → (ceilings : List ℕ) → Ceilings m ceilings → Chooses (r .machine) ceilings
+chooses {m} r f k a ceilings c =
+    let same : r .machine .plan .threads ≡ m .plan .threads = ap (λ (p : Plan). p .threads) (k .plan') in
     record {
       valid = subst (λ p. T (validPlan p)) (sym (plan-kept r k)) (f .valid);
       listed =
           record {
-            threads' = omega (arith, ap (λ (p : Plan). p .threads) (k .plan'), f .fits .threads);
-            queue' = omega (arith, length-queued (r .machine .queue), ap (λ (z : State). length (z .queue)) (k .seen), a .queue');
-            holds' = omega (arith, length-held (r .machine .holds), ap (λ (z : State). length (z .holds)) (k .seen), a .holds');
-            waits' = omega (arith, length-queued (r .machine .waits), ap (λ (z : State). length (z .waits)) (k .seen), a .waits');
-            known = queue-known r k a;
+            threads' = omega (arith, same, f .fits .threads);
+            counts =
+                record {
+                  queue' = omega (arith, length-queued (r .machine .queue), ap (λ (z : State). length (z .queue)) (k .seen), a .queue');
+                  holds' = omega (arith, length-held (r .machine .holds), ap (λ (z : State). length (z .holds)) (k .seen), a .holds');
+                  waits' = omega (arith, length-queued (r .machine .waits), ap (λ (z : State). length (z .waits)) (k .seen), a .waits');
+                };
+            known = λ t i. omega (arith, same, a .known t (subst (λ (l : List ℕ). Mem t l) (ap (λ (z : State). z .queue) (k .seen)) i));
+            waiting' = λ t i. omega (arith, same, a .waiting' t (subst (λ (l : List ℕ). Mem t l) (ap (λ (z : State). z .waits) (k .seen)) i));
           };
       ceilings' = c ∙ ap (λ p. map (ceiling p) (upTo 16)) (sym (plan-kept r k));
     }
 
 -- and what the Switch asks
-pub settles : {m : Machine} {st : State} (r : Called) → Facts m → Meets r m st → After st → (ceilings : List ℕ) → Ceilings m ceilings → Settles r ceilings
+pub settles : {m : Machine} {st : State} (r : Called) → Facts m → Meets r m st → After (m .plan .threads) st → (ceilings : List ℕ) → Ceilings m ceilings → Settles r ceilings
 settles r f k a ceilings c =
     record {
       chooses = chooses r f k a ceilings c;

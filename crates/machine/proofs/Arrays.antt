@@ -7,8 +7,6 @@ use native.Mathlib.Omega.{arith}
 use lib.ListN.{length, getD, set}
 use lib.Seq.{getD-set-same, getD-set-other}
 use Rattle.model.specs.Searches.{countFrom, upTo}
-use Rattle.plan.specs.View.{inUse}
-use Rattle.plan.proofs.Loops.{length-listed}
 
 count-more : (i n : ℕ) → countFrom i (suc n) ≡ countFrom i n ++ ((i + n) ∷ [])
 count-more i zero = let z : i ≡ i + 0 = omega arith in ap (λ k. k ∷ []) z
@@ -41,10 +39,3 @@ pub stored-next : {A B : Type 0} (f : A → B) (d a : A) (items : List A) (n : �
 stored-next f d a items n h =
     listed-more (λ i. f (getD (set items n a) i d)) n
     ∙ (rw (getD-set-same items n a d h, listed-alike (λ i. f (getD (set items n a) i d)) (λ i. f (getD items i d)) n (λ k b. ap f (getD-set-other items n k a d (λ e. omega arith)))))
-
--- the entries in use with one more, and how many they are
-pub in-use-more : (n : ℕ) (items : List ℕ) → inUse (n + 1) items ≡ inUse n items ++ (getD items n 0 ∷ [])
-in-use-more n items = listed-more (λ i. getD items i 0) n
-
-pub in-use-length : (n : ℕ) (items : List ℕ) → length (inUse n items) ≡ n
-in-use-length n items = length-listed (λ i. getD items i 0) n

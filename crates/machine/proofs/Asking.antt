@@ -16,7 +16,7 @@ use Rattle.model.proofs.Tests.{same-eq}
 use Rattle.model.proofs.Nesting.{chosen-is}
 use Rattle.model.proofs.Performed.{AllYes, somebody, dormant-is}
 use Rattle.machine.specs.declared.Machine.{Machine}
-use Rattle.machine.specs.Lists.{numbered, held}
+use Rattle.lists.specs.Lists.{numbered, held}
 use Rattle.machine.specs.View.{planOf, idle}
 use Rattle.machine.specs.Rules.{ruleNumber, runRule, freeRule, createRule, takeRule, giveRule}
 use Rattle.machine.specs.Contracts.{CreateAsked, Asked, SectionAsked}
@@ -38,7 +38,7 @@ pub tick-rule : (m : Machine) → 0 ≡ asked m records.Tick
 tick-rule m = sym (behind m records.Tick)
 
 pub create-rule : {m : Machine} {t : ℕ} → CreateAsked m t → createRule (m .slots) t ≡ asked m (records.Create t)
-create-rule {m} {t} a = create-asked (m .plan .threads) (m .slots) t (a .known) ∙ sym (behind m (records.Create t))
+create-rule {m} {t} a = create-asked (m .plan .threads) (m .slots) (m .wakes) t (a .known) ∙ sym (behind m (records.Create t))
 
 pub creates : {m : Machine} {t : ℕ} → CreateAsked m t → asked m (records.Create t) ≡ 0 → Creates m t
 creates {m} {t} a z = record { formed = a .formed; known = a .known; dormant' = dormant-is (condition (idle m) t) (yes m (records.Create t) z .1 .0) }

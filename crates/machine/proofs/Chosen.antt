@@ -18,26 +18,35 @@ use Rattle.model.proofs.Tests.{split}
 use Rattle.model.proofs.Searches.{greatest-is}
 use Rattle.model.proofs.Ceiling.{ceiling-attained}
 use Rattle.model.proofs.Bounds.{queue-fits, waits-fit, sections-fit, mayTake-below}
-use Rattle.plan.specs.View.{baseIn}
+use Rattle.plan.specs.declared.Plan.{Plan}
+use Rattle.plan.specs.View.{baseIn, view}
 use Rattle.plan.proofs.Loops.{unlisted}
-use Rattle.plan.proofs.Laws.{threads-view, valid-fits, ceilings-at}
+use Rattle.plan.proofs.Laws.{threads-view, valid-fits, ceilings-at, base-at, base-positive}
 use Rattle.machine.specs.declared.Machine.{Machine}
-use Rattle.machine.specs.Lists.{numbered, queued, held, ceilingIn, currentIn}
+use Rattle.lists.specs.declared.queue.Queue.{Queue}
+use Rattle.lists.specs.declared.holds.Holds.{Holds}
+use Rattle.lists.specs.Words.{entryOf}
+use Rattle.lists.specs.Lists.{numbered, queued, held, ceilingIn, currentIn, Positive}
 use Rattle.machine.specs.View.{planOf, viewed}
-use Rattle.machine.specs.Contracts.{ownerIn, priorityIn, chosenIn, rivalledIn, Listed, Ceilings}
+use Rattle.machine.specs.Contracts.{ownerIn, priorityIn, chosenIn, rivalledIn, inheritsIn, Listed, Ceilings}
 use Rattle.machine.proofs.Facts.{Facts}
-use Rattle.machine.proofs.Views.{length-queued, length-held, number-is}
-use Rattle.machine.proofs.Room.{queued-known}
+use Rattle.lists.proofs.Laws.{length-queued, length-held}
+use Rattle.machine.proofs.Views.{number-is}
+use Rattle.machine.proofs.Room.{queued-known, waiting-known}
 
--- the lists of a well-formed machine fit their arrays
+-- the lists of a well-formed machine fit their words, and name threads
 pub listed : {m : Machine} → Facts m → Listed (m .plan .threads) (m .queue) (m .holds) (m .waits)
 listed {m} f =
     record {
       threads' = f .fits .threads;
-      queue' = omega (arith, length-queued (m .queue), queue-fits (planOf m) (f .agree), threads-view (m .plan), f .fits .threads);
-      holds' = omega (arith, length-held (m .holds), sections-fit (m .plan .sections) (held (m .holds)) (f .heldOnce) (λ h i. f .held h i .0), f .fits .sections);
-      waits' = omega (arith, length-queued (m .waits), waits-fit (planOf m) (f .agree), threads-view (m .plan), f .fits .threads);
-      known = λ t i. omega (arith, queued-known f t i, f .fits .threads);
+      counts =
+          record {
+            queue' = omega (arith, length-queued (m .queue), queue-fits (planOf m) (f .agree), threads-view (m .plan), f .fits .threads);
+            holds' = omega (arith, length-held (m .holds), sections-fit (m .plan .sections) (held (m .holds)) (f .heldOnce) (λ h i. f .held h i .0), f .fits .sections);
+            waits' = omega (arith, length-queued (m .waits), waits-fit (planOf m) (f .agree), threads-view (m .plan), f .fits .threads);
+          };
+      known = queued-known f;
+      waiting' = waiting-known f;
     }
 
 -- model's base of the machine's plan, from the parts that it is read from
@@ -93,6 +102,46 @@ module _ {A : Type 0} where
       go : (o : Option A) → firstGreatest g l ≡ o → better f a o ≡ better g a o
       go none e = refl
       go (some b) e = rw (h a (here refl), h b (there (greatest-is g l b e .0)))
+
+  greatest-agree : (f g : A → ℕ) (l : List A) → ((a : A) → Mem a l → f a ≡ g a) → greatest f l ≡ greatest g l
+  greatest-agree f g [] h = refl
+  greatest-agree f g (a ∷ l) h = rw (h a (here refl), greatest-agree f g l (λ b i. h b (there i)))
+
+-- the table of bases gives every listed thread the base that it has in the plan
+module _ (bases ceilings : List ℕ) {threads : ℕ} {queue : Queue} {holds : Holds} {waits : Queue} (l : Listed threads queue holds waits) where
+  table-at : (t : ℕ) → t < threads → entryOf bases t ≡ baseIn threads bases t
+  table-at t h = sym (base-at threads bases t h)
+
+  priority-same : (t : ℕ) → t < threads → priorityIn (entryOf bases) ceilings (held holds) (queued waits) t ≡ priorityIn (baseIn threads bases) ceilings (held holds) (queued waits) t
+  priority-same t h =
+      ap₂ (λ (b u : ℕ). cond (same (ownerIn ceilings (held holds)) (some t)) (max b u) b) (table-at t h)
+      (greatest-agree (entryOf bases) (baseIn threads bases) (queued waits) (λ w i. table-at w (l .waiting' w i)))
+
+  pub chosen-same : chosenIn (entryOf bases) ceilings (queued queue) (held holds) (queued waits) ≡ chosenIn (baseIn threads bases) ceilings (queued queue) (held holds) (queued waits)
+  chosen-same =
+      firstGreatest-agree (priorityIn (entryOf bases) ceilings (held holds) (queued waits)) (priorityIn (baseIn threads bases) ceilings (held holds) (queued waits)) (queued queue)
+      (λ t i. priority-same t (l .known t i))
+
+  pub rivalled-same : (x : ℕ) → x < threads → rivalledIn (entryOf bases) ceilings (queued queue) (held holds) (queued waits) x ≡ rivalledIn (baseIn threads bases) ceilings (queued queue) (held holds) (queued waits) x
+  rivalled-same x h = any-agree _ _ (queued queue) (λ t i. ap₂ (λ (a b : ℕ). not (eqb t x) && eqb a b) (priority-same t (l .known t i)) (priority-same x h))
+
+  pub heir-same : firstGreatest (entryOf bases) (queued waits) ≡ firstGreatest (baseIn threads bases) (queued waits)
+  heir-same = firstGreatest-agree (entryOf bases) (baseIn threads bases) (queued waits) (λ w i. table-at w (l .waiting' w i))
+
+  pub inherits-same : (hs : List Hold) → inheritsIn (entryOf bases) ceilings hs (firstGreatest (entryOf bases) (queued waits)) ≡ inheritsIn (baseIn threads bases) ceilings hs (firstGreatest (baseIn threads bases) (queued waits))
+  inherits-same hs = ap (inheritsIn (entryOf bases) ceilings hs) heir-same ∙ go (firstGreatest (baseIn threads bases) (queued waits)) refl
+    where
+      go : (o : Option ℕ) → firstGreatest (baseIn threads bases) (queued waits) ≡ o → inheritsIn (entryOf bases) ceilings hs o ≡ inheritsIn (baseIn threads bases) ceilings hs o
+      go none e = refl
+      go (some w) e = ap (λ (b : ℕ). all (λ h. ltb (ceilingIn ceilings h) b) hs) (table-at w (l .waiting' w (greatest-is (baseIn threads bases) (queued waits) w e .0)))
+
+-- and this base is above 0
+
+pub queue-positive : (p : Plan) {queue : Queue} {holds : Holds} {waits : Queue} → T (validPlan (view p)) → Listed (p .threads) queue holds waits → Positive (p .bases) (queued queue)
+queue-positive p v l = record { at = λ t i. base-positive p v t (l .known t i) }
+
+pub waits-positive : (p : Plan) {queue : Queue} {holds : Holds} {waits : Queue} → T (validPlan (view p)) → Listed (p .threads) queue holds waits → Positive (p .bases) (queued waits)
+waits-positive p v l = record { at = λ t i. base-positive p v t (l .waiting' t i) }
 
 -- an owner's number and an urgency give every thread its current priority
 pub record Tells (base : ℕ → ℕ) (owner urgency : ℕ) (ceilings : List ℕ) (hs : List Hold) (ws : List ℕ) : Type 0 where

@@ -1,63 +1,67 @@
--- Laws of the search for the heir: the first of greatest base among the waits passed, and whether no held ceiling bars it.
-use mathlib.Core.Path.{_≡_, refl, ap, sym, subst, _∙_}
-use mathlib.Core.Logic.{_⊎_, inl, inr}
-use mathlib.Core.Bool.{Bool}
-use mathlib.Core.List.{List, map}
-use mathlib.Core.Option.{Option, none, some, Option·none-ne-some}
-use Prim.Native.Nat.{ℕ, zero, suc, _+_, _≤_, _<_}
+-- Laws of the search for the heir: the one kept so far, or the first of greatest base among the waits left if that is greater, is the heir.
+use mathlib.Core.Path.{_≡_, ap, sym, _∙_}
+use mathlib.Core.Bool.{Bool, not}
+use mathlib.Core.List.{List, List·Memᴰ as Mem, List·Memᴰ·head as here, List·Memᴰ·tail as there}
+use mathlib.Core.Option.{Option, some}
+use Prim.Native.Nat.{ℕ, zero, suc, _-_, _/_, _%_, _≤_, _<_}
 use native.Mathlib.Omega.{arith}
-use borrow.Author.Tests.{lt-ltb, le-ltb}
+use borrow.Author.Tests.{ne-eqb}
 use lib.Dec.{ltb}
-use lib.ListN.{getD}
-use Rattle.model.specs.Searches.{all, better, firstGreatest, countFrom}
+use Rattle.model.specs.Searches.{any, better, firstGreatest}
 use Rattle.model.specs.State as state
-use Rattle.plan.specs.View.{inUse}
-use Rattle.machine.specs.Lists.{numbered, ceilingIn, inheritsIn}
-use Rattle.machine.proofs.Holdings.{valueOf}
-use Rattle.machine.proofs.Queues.{further, best-next}
+use Rattle.model.proofs.Searches.{greatest-is}
+use Rattle.lists.specs.Words.{nibbles}
+use Rattle.lists.specs.Lists.{numbered, ceilingIn}
+use Rattle.lists.proofs.Queues.{first, ended, overtaken, replaced, stayed}
+use Rattle.lists.proofs.Holdings.{all-none}
+use Rattle.machine.specs.Lists.{threadOf}
+use Rattle.machine.specs.Contracts.{inheritsIn}
+use Rattle.machine.proofs.Views.{threadOf-numbered}
 
-module _ {A : Type 0} (f : A → ℕ) (a : A) where
-  -- a later one is taken if it is the first or has a greater value, and otherwise the best so far stays
-  taken : (o : Option A) → (o ≡ none) ⊎ (valueOf f o < f a) → further f o a ≡ a
-  taken none k = refl
-  taken (some b) (inl e) = absurd (Option·none-ne-some b (sym e))
-  taken (some b) (inr k) = rw (lt-ltb (f b) (f a) k)
+-- the hold's ceiling bars a thread of this base
+abbrev pub bars : (ceilings : List ℕ) (base : ℕ) → state.Hold → Bool
+bars ceilings b h = not (ltb (ceilingIn ceilings h) b)
 
-  kept : (o : Option A) (b : A) → o ≡ some b → f a ≤ valueOf f o → _≡_ {A = Option A} (some (further f o a)) o
-  kept none b e k = absurd (Option·none-ne-some b e)
-  kept (some c) b e k = rw (le-ltb (f c) (f a) k)
+-- the numbers packed in a word are below sixteen
+nibbles-below : (n w : ℕ) {t : ℕ} → Mem t (nibbles n w) → t < 16
+nibbles-below zero w m = elim m [ ]
+nibbles-below (suc n) w (here e) = omega arith
+nibbles-below (suc n) w (there m) = nibbles-below n (w / 16) m
 
-module _ (base : ℕ → ℕ) (ceilings : List ℕ) (hs : List state.Hold) (items : List ℕ) where
-  abbrev best : ℕ → Option ℕ
-  best i = firstGreatest base (inUse i items)
+-- the waits, as a count and a word
+module _ (base : ℕ → ℕ) (ceilings : List ℕ) (hs : List state.Hold) (count items : ℕ) where
+  abbrev heir : Option ℕ
+  heir = firstGreatest base (nibbles count items)
 
-  abbrev pub HeirYet : (i who top : ℕ) (free : Bool) → Type 0
-  HeirYet i who top free = (who ≡ numbered (best i)) × (free ≡ inheritsIn base ceilings hs (best i)) × (top ≡ valueOf base (best i))
+  abbrev pub HeirLeft : (who : ℕ) (free : Bool) (top left rest : ℕ) → Type 0
+  HeirLeft who free top left rest =
+      (overtaken base who top (firstGreatest base (nibbles left rest)) ≡ numbered heir) × (free ≡ inheritsIn base ceilings hs (threadOf who))
 
-  -- behind the first place there is one
-  some-best : (i : ℕ) → (i ≡ 0 → ⊥) → (b : ℕ) × (best i ≡ some b)
-  some-best zero k = absurd (k refl)
-  some-best (suc i) k = (better base (getD items 0 0) (firstGreatest base (map (λ t. getD items t 0) (countFrom 1 i))), refl)
+  module _ (who : ℕ) (free : Bool) (top left rest : ℕ) where
+    module _ (k : 0 < left) (inv : HeirLeft who free top left rest) where
+      abbrev next : ℕ
+      next = rest % 16
 
-  module _ (i who top : ℕ) (free : Bool) (inv : HeirYet i who top free) (b : ℕ) (e : b ≡ base (getD items i 0)) where
-    -- the next one becomes the heir, free if its base is above every held ceiling
-    pub turns-to : (i ≡ 0) ⊎ (top < b) → (free′ : Bool) → free′ ≡ all (λ h. ltb (ceilingIn ceilings h) b) hs → HeirYet (i + 1) (getD items i 0) b free′
-    turns-to k free′ q = rw z (refl, q ∙ ap (λ x. all (λ h. ltb (ceilingIn ceilings h) x) hs) e, e)
+      abbrev others : Option ℕ
+      others = firstGreatest base (nibbles (left - 1) (rest / 16))
+
+      met : overtaken base who top (some (better base next others)) ≡ numbered heir
+      met = rw (first left rest k) at (inv .0)
+
+      -- the next one becomes the heir, free if no held ceiling bars it
+      pub turns-to : top < base next → (free′ : Bool) → free′ ≡ not (any (bars ceilings (base next)) hs) → HeirLeft next free′ (base next) (left - 1) (rest / 16)
+      turns-to h free′ e = (
+        sym (replaced base who top next others h) ∙ met,
+        rw (ne-eqb next 255 (λ z. omega arith)) (e ∙ sym (all-none (λ h. ltb (ceilingIn ceilings h) (base next)) hs)),
+      )
+
+      -- the heir stays
+      pub stays : base next ≤ top → HeirLeft who free top (left - 1) (rest / 16)
+      stays h = (sym (stayed base who top next others h) ∙ met, inv .1)
+
+    -- at the end of the walk none is left
+    pub found-heir : left ≤ 0 → HeirLeft who free top left rest → (who ≡ numbered heir) × (free ≡ inheritsIn base ceilings hs heir)
+    found-heir k inv = (is, inv .1 ∙ ap (inheritsIn base ceilings hs) (ap threadOf is ∙ threadOf-numbered heir (λ t e. omega (arith, nibbles-below count items (greatest-is base (nibbles count items) t e .0)))))
       where
-        first : (i ≡ 0) ⊎ (top < b) → (best i ≡ none) ⊎ (valueOf base (best i) < base (getD items i 0))
-        first (inl r) = inl (ap best r)
-        first (inr r) = inr (omega (arith, inv .2))
-
-        z : best (i + 1) ≡ some (getD items i 0)
-        z = best-next base i items ∙ ap {B = Option ℕ} some (taken base (getD items i 0) (best i) (first k))
-
-    -- the heir stays
-    pub stays : (i ≡ 0 → ⊥) → b ≤ top → HeirYet (i + 1) who top free
-    stays k q = rw z inv
-      where
-        z : best (i + 1) ≡ best i
-        z = let s = some-best i k in best-next base i items ∙ kept base (getD items i 0) (best i) (s .0) (s .1) (omega (arith, inv .2))
-
-  -- at the end of the walk all of them are passed
-  pub all-passed : (n i who top : ℕ) (free : Bool) → i ≤ n → n ≤ i → HeirYet i who top free → HeirYet n who top free
-  all-passed n i who top free a b inv = let e : i ≡ n = omega arith in subst (λ (k : ℕ). HeirYet k who top free) e inv
+        is : who ≡ numbered heir
+        is = rw (ended left rest k) at (inv .0)

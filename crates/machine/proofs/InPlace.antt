@@ -20,6 +20,7 @@ use Rattle.machine.proofs.ReportKinds.{switches, switches-not}
 pub record Told (r c : Called) (given : Report) : Type 0 where
   pub plan' : r .machine .plan ≡ c .machine .plan
   pub slots' : r .machine .slots ≡ c .machine .slots
+  pub wakes' : r .machine .wakes ≡ c .machine .wakes
   pub reports' : reportsOf r ≡ reportsOf c
   pub seen : (due : List records.Report) → viewed (r .machine) due ≡ state.setReported (state.switchedTo (threadOf (c .machine .reported)) (reportOf given)) (viewed (c .machine) due)
 
@@ -28,15 +29,16 @@ pub record Passes (r c : Called) : Type 0 where
   pub plan' : r .machine .plan ≡ c .machine .plan
   pub reports' : reportsOf r ≡ reportsOf c
   pub slots' : r .machine .slots ≡ c .machine .slots
+  pub wakes' : r .machine .wakes ≡ c .machine .wakes
   pub reported' : r .machine .reported ≡ c .machine .reported
   pub seen : (due : List records.Report) → viewed (r .machine) due ≡ state.setTickNumber (c .machine .tick .0 + 1) (viewed (c .machine) due)
 
 pub told-told : (c : Called) (given : Report) → Told (told c given) c given
-told-told c given = record { plan' = refl; slots' = refl; reports' = refl; seen = λ due. ap (λ w. state.setReported w (viewed (c .machine) due)) (go (equal? (given .kind) 17)) }
+told-told c given = record { plan' = refl; slots' = refl; wakes' = refl; reports' = refl; seen = λ due. ap (λ w. state.setReported w (viewed (c .machine) due)) (go (equal? (given .kind) 17)) }
   where
     go : (given .kind ≡ 17) ⊎ (given .kind ≢ 17) → threadOf (cond (eqb (given .kind) 17) (given .who) (c .machine .reported)) ≡ state.switchedTo (threadOf (c .machine .reported)) (reportOf given)
     go (inl e) = ap (λ b. threadOf (cond b (given .who) (c .machine .reported))) (eq-eqb (given .kind) 17 e) ∙ sym (switches given (threadOf (c .machine .reported)) e)
     go (inr d) = ap (λ b. threadOf (cond b (given .who) (c .machine .reported))) (ne-eqb (given .kind) 17 d) ∙ sym (switches-not given (threadOf (c .machine .reported)) d)
 
 pub passed-passes : (c : Called) → Passes (passed c) c
-passed-passes c = record { plan' = refl; reports' = refl; slots' = refl; reported' = refl; seen = λ due. refl }
+passed-passes c = record { plan' = refl; reports' = refl; slots' = refl; wakes' = refl; reported' = refl; seen = λ due. refl }

@@ -33,7 +33,7 @@ pub use Rattle.machine.proofs.Sized.{due-size, called-size}
 pub use Rattle.machine.proofs.Owing.{due-fits}
 -- what becomes of the state by a report given and by a Tick that wakes nobody, and up to which tick number nobody wakes
 pub use Rattle.machine.proofs.InPlace.{Told, Passes, told-told, passed-passes}
-pub use Rattle.machine.proofs.Quieted.{Quiet, soonest-quiet, known-quiet}
+pub use Rattle.machine.proofs.Quieted.{Quiet, soonest-quiet, call-quiet}
 -- what a step answers, case by case, on a machine and its reports side by side
 pub use Rattle.machine.proofs.Outcomes.{call-due, report-breaks, report-given, report-undue, create-asked, caller-asked, take-asked, give-asked, tick-asked, tick-passes, call-breaks, call-settles, call-unswitched, call-switched}
 

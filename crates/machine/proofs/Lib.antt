@@ -1,9 +1,7 @@
 -- What holds of this crate's definitions, and the laws that its proofs share. Laws is what other crates may cite.
 pub mod Arrays
-pub mod Queues
 pub mod Sized
 pub mod Conditions
-pub mod Holdings
 pub mod Heirs
 pub mod Views
 pub mod Facts

@@ -29,7 +29,8 @@ use Rattle.machine.specs.declared.calls.Called.{Called}
 use Rattle.machine.specs.declared.reports.Report as declared
 use Rattle.machine.specs.declared.reports.Reports.{Reports}
 use Rattle.machine.specs.declared.state.State.{State}
-use Rattle.machine.specs.Lists.{numbered, threadOf, reportOf, noReport, owed}
+use Rattle.lists.specs.Lists.{numbered}
+use Rattle.machine.specs.Lists.{threadOf, reportOf, noReport, owed}
 use Rattle.machine.specs.View.{planOf, viewed, idle, view}
 use Rattle.machine.specs.Rules.{ruleNumber, reportRule}
 use Rattle.machine.specs.Contracts.{Formed, CreateAsked, Asked, SectionAsked, Ticks, reportsOf, Makes}
@@ -187,13 +188,13 @@ module _ (c : Called) (given' : ℕ) {ceilings : List ℕ} {who : ℕ} {r : reco
     tick-asked e = record { formed = formed'; room = steps .tick e }
 
     -- a call that breaks no rule leaves enough to go on from
-    leaves : (k : Call) → r ≡ call k → asked (c .machine) k ≡ 0 → After (perform (planOf (c .machine)) k (idle (c .machine)))
+    leaves : (k : Call) → r ≡ call k → asked (c .machine) k ≡ 0 → After (c .machine .plan .threads) (perform (planOf (c .machine)) k (idle (c .machine)))
     leaves (records.Create t) e z = created (creates (create-asked e) z)
-    leaves (records.Delay n) e z = let w = delays caller-asked n z in subst After (sym (by w (λ x. delay x n))) (delayed w n)
-    leaves records.Relinquish e z = let w = relinquishes caller-asked z in subst After (sym (by w (relinquish (planOf (c .machine))))) (relinquished w)
-    leaves records.End e z = let w = ends caller-asked z in subst After (sym (by w end)) (ended w)
-    leaves (records.Take n) e z = let w = takes (take-asked e) z in subst After (sym (by (w .runs) (λ x. take (planOf (c .machine)) x n))) (taken w)
-    leaves (records.Give n) e z = let w = gives (give-asked e) z in subst After (sym (by (w .runs) (λ x. give (planOf (c .machine)) x n))) (given w)
+    leaves (records.Delay n) e z = let w = delays caller-asked n z in subst (After (c .machine .plan .threads)) (sym (by w (λ x. delay x n))) (delayed w n)
+    leaves records.Relinquish e z = let w = relinquishes caller-asked z in subst (After (c .machine .plan .threads)) (sym (by w (relinquish (planOf (c .machine))))) (relinquished w)
+    leaves records.End e z = let w = ends caller-asked z in subst (After (c .machine .plan .threads)) (sym (by w end)) (ended w)
+    leaves (records.Take n) e z = let w = takes (take-asked e) z in subst (After (c .machine .plan .threads)) (sym (by (w .runs) (λ x. take (planOf (c .machine)) x n))) (taken w)
+    leaves (records.Give n) e z = let w = gives (give-asked e) z in subst (After (c .machine .plan .threads)) (sym (by (w .runs) (λ x. give (planOf (c .machine)) x n))) (given w)
     leaves records.Tick e z = ticked (tick-asked e)
 
     asked-here : (k : Call) → r ≡ call k → ruleNumber (broken (planOf (c .machine)) (view (stateOf c given')) r) ≡ asked (c .machine) k
@@ -202,7 +203,7 @@ module _ (c : Called) (given' : ℕ) {ceilings : List ℕ} {who : ℕ} {r : reco
         ∙ ap (λ (st : state.State). ruleNumber (broken (planOf (c .machine)) st (call k))) comes-idle
 
     -- a Tick that wakes nobody, where the chosen thread is the one reported
-    pub tick-passes : (c' : Called) → Passes c' c → r ≡ call records.Tick → {until : ℕ} → Quiet (c .machine .plan .threads) (c .machine .slots) until → c .machine .tick .0 + 1 < until → who ≡ c .machine .reported
+    pub tick-passes : (c' : Called) → Passes c' c → r ≡ call records.Tick → {until : ℕ} → Quiet (c .machine .plan .threads) (c .machine .slots) (c .machine .wakes) until → c .machine .tick .0 + 1 < until → who ≡ c .machine .reported
         → Answers (stateOf c' given') who 0 (stateOf c given') r
     tick-passes c' t e {until} quiet below is =
         moved-on (stateOf c' given') who (t .plan') (asked-here records.Tick e ∙ sym (tick-rule m))

@@ -1,27 +1,30 @@
 -- Answer 12, question by question: what the tests of a state that came from outside say of its numbers, its counts and its threads.
-use mathlib.Core.Path.{_≡_, refl, ap, sym, _∙_}
+use mathlib.Core.Path.{_≡_, refl, ap, ap₂, sym, _∙_}
 use mathlib.Core.Logic.{_≢_}
 use mathlib.Core.Bool.{Bool, true, false, not, _&&_}
 use mathlib.Core.List.{List, [], _∷_, List·Memᴰ as Mem, List·Memᴰ·head as here, List·Memᴰ·tail as there}
 use Prim.Native.Nat.{ℕ, _+_, _≤_, _<_}
 use native.Mathlib.Omega.{arith}
 use borrow.Author.Tests.{le-leb, lt-leb, le-ltb, ne-eqb, not-true, not-false}
-use lib.Dec.{T, leb, ltb, leb→le, le→leb, T-not, not-T}
+use lib.Dec.{T, eqb, leb, ltb, leb→le, le→leb, T-not, not-T}
 use lib.ListN.{getD}
 use Rattle.model.specs.Searches.{all, upTo}
 use Rattle.model.specs.Plan.{threads, validPlan}
 use Rattle.model.specs.Records.{Report, isThread}
 use Rattle.model.specs.State.{condition}
-use Rattle.model.specs.Formed.{lastTick, conditionInRange, areThreads, holdInRange, numbersInRange, heldOnce, standsOnce, allStandOnce, dueInRange, formed}
+use Rattle.model.specs.Formed.{lastTick, conditionInRange, areThreads, holdInRange, numbersInRange, heldOnce, times, standsOnce, allStandOnce, dueInRange, formed}
 use Rattle.model.proofs.Tests.{is-false, from-true, from-false, and-left, and-right, and-both}
 use Rattle.model.proofs.Searches.{upTo-at}
 use Rattle.plan.specs.declared.Plan.{Plan}
 use Rattle.plan.specs.View.{view}
 use Rattle.plan.proofs.Laws.{threads-view, valid-fits}
 use Rattle.machine.specs.declared.Machine.{Machine}
-use Rattle.machine.specs.Lists.{threadOf, queued, held}
-use Rattle.machine.specs.View.{conditionOf, noSlot, conditionsOf, planOf, viewed, idle}
-use Rattle.machine.specs.Contracts.{Formed, Counted}
+use Rattle.lists.specs.Words.{nibble}
+use Rattle.lists.specs.Lists.{queued, held}
+use Rattle.machine.specs.Lists.{threadOf}
+use Rattle.machine.specs.View.{conditionOf, conditionsOf, planOf, viewed, idle}
+use Rattle.machine.specs.Contracts.{Formed, Counted, standsBy}
+use Rattle.machine.proofs.Conditions.{queued-by, waits-by}
 use Rattle.machine.proofs.Facts.{facts}
 use Rattle.machine.proofs.Views.{condition-at}
 use Rattle.machine.proofs.Chosen.{listed}
@@ -71,7 +74,7 @@ module _ (m : Machine) where
   reported' = isThread (planOf m) (threadOf (m .reported))
 
   abbrev conditions' : Bool
-  conditions' = all (conditionInRange (m .plan .sections)) (conditionsOf (m .plan .threads) (m .slots))
+  conditions' = all (conditionInRange (m .plan .sections)) (conditionsOf (m .plan .threads) (m .slots) (m .wakes))
 
   abbrev queue' : Bool
   queue' = areThreads (m .plan .threads) (queued (m .queue))
@@ -119,6 +122,11 @@ all-agree : {A : Type 0} (f g : A → Bool) (l : List A) → ((a : A) → Mem a 
 all-agree f g [] h = refl
 all-agree f g (a ∷ l) h = rw (h a (here refl), all-agree f g l (λ b i. h b (there i)))
 
+-- a thread stands where its condition says: by the condition's number
+stands-by : (q ws : List ℕ) (s n w t : ℕ) → standsBy q ws s t ≡ standsOnce q ws (conditionOf s n w) t
+stands-by q ws s n w t =
+    ap₂ (λ (a b : ℕ). eqb (times (λ u. eqb u t) q) a && eqb (times (λ u. eqb u t) ws) b) (sym (queued-by s n w)) (sym (waits-by s n w))
+
 -- the questions in the order in which they are asked: the plan, the counts, the numbers, the holds, the threads, the reports due
 module _ (m : Machine) where
   abbrev plan' : Bool
@@ -143,14 +151,17 @@ module _ (m : Machine) where
       let u = and-left (queueFits && waitsFit) holdsFit t in
       record {
         fits = valid-fits (m .plan) (from-true plan' v);
-        queue' = leb→le (m .queue .count) 16 (and-left queueFits waitsFit u);
-        waits' = leb→le (m .waits .count) 16 (and-right queueFits waitsFit u);
-        holds' = leb→le (m .holds .count) 16 (and-right (queueFits && waitsFit) holdsFit t);
+        counts =
+            record {
+              queue' = leb→le (m .queue .count) 16 (and-left queueFits waitsFit u);
+              holds' = leb→le (m .holds .count) 16 (and-right (queueFits && waitsFit) holdsFit t);
+              waits' = leb→le (m .waits .count) 16 (and-right queueFits waitsFit u);
+            };
       }
 
   counts-pass : Formed m → T counts'
   counts-pass f =
-      let l = listed (facts f) in
+      let l = listed (facts f) .counts in
       and-both (queueFits && waitsFit) holdsFit
       (and-both queueFits waitsFit (le→leb (m .queue .count) 16 (l .queue')) (le→leb (m .waits .count) 16 (l .waits')))
       (le→leb (m .holds .count) 16 (l .holds'))
@@ -161,10 +172,10 @@ module _ (m : Machine) where
   abbrev once' : Bool
   once' = heldOnce (m .plan .sections) (held (m .holds))
 
-  -- of a slot's condition, and of the thread's in the state that the machine stands for: below T these are the same
+  -- of a condition's number, and of the thread's condition in the state that the machine stands for: below T these are the same
 
   abbrev slotStands : (thread : ℕ) → Bool
-  slotStands t = standsOnce (queued (m .queue)) (queued (m .waits)) (conditionOf (getD (m .slots) t noSlot)) t
+  slotStands t = standsBy (queued (m .queue)) (queued (m .waits)) (nibble (m .slots .states) t) t
 
   abbrev threadStands : (thread : ℕ) → Bool
   threadStands t = standsOnce (queued (m .queue)) (queued (m .waits)) (condition (idle m) t) t
@@ -175,7 +186,9 @@ module _ (m : Machine) where
   stand : threads' ≡ all threadStands (upTo (threads (planOf m)))
   stand =
       all-agree slotStands threadStands (upTo (m .plan .threads))
-      (λ t i. ap (λ c. standsOnce (queued (m .queue)) (queued (m .waits)) c t) (sym (condition-at (m .plan .threads) (m .slots) t (upTo-at (m .plan .threads) i))))
+      (λ t i.
+      stands-by (queued (m .queue)) (queued (m .waits)) (nibble (m .slots .states) t) (nibble (m .slots .wants) t) (getD (m .wakes) t 0) t
+      ∙ ap (λ c. standsOnce (queued (m .queue)) (queued (m .waits)) c t) (sym (condition-at (m .plan .threads) (m .slots) (m .wakes) t (upTo-at (m .plan .threads) i))))
       ∙ ap (λ n. all threadStands (upTo n)) (sym (threads-view (m .plan)))
 
   module _ (due : List Report) where

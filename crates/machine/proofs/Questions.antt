@@ -19,13 +19,16 @@ use Rattle.model.specs.Priorities.{chosen}
 use Rattle.model.specs.Rules.{Question, _asks_, firstNo, nothingDue, isSomebody, askCaller, isDormant, holdsNone, holdsNot, lastTaken, broken}
 use Rattle.model.proofs.Tests.{equal?}
 use Rattle.plan.specs.View.{mayTakeIn}
-use Rattle.machine.specs.declared.holds.Holds.{Holds}
+use Rattle.lists.specs.declared.holds.Holds.{Holds}
 use Rattle.machine.specs.declared.reports.Report as declared
-use Rattle.machine.specs.declared.slots.Slot.{Slot}
-use Rattle.machine.specs.Lists.{numbered, held, reportOf}
-use Rattle.machine.specs.View.{conditionOf, noSlot, conditionsOf}
+use Rattle.machine.specs.declared.slots.Slots.{Slots}
+use Rattle.lists.specs.Words.{nibble}
+use Rattle.lists.specs.Lists.{numbered, held}
+use Rattle.machine.specs.Lists.{reportOf}
+use Rattle.machine.specs.View.{conditionsOf}
 use Rattle.machine.specs.Rules.{ruleNumber, runRule, freeRule, createRule, takeRule, giveRule, reportRule}
 use Rattle.machine.specs.Steps.{IsReport}
+use Rattle.machine.proofs.Conditions.{dormant-state}
 use Rattle.machine.proofs.Views.{condition-at, number-is}
 use Rattle.machine.proofs.ReportKinds.{kind-is, same-named}
 
@@ -53,9 +56,11 @@ number-of-two true b m n = number-of b n
 number-of-two false b m n = refl
 
 -- 23, of a slot that is in use
-pub create-asked : (n : ℕ) (slots : List Slot) (t : ℕ) → t < n → createRule slots t ≡ number (23 asks isDormant (getD (conditionsOf n slots) t state.dormant) ∷ [])
-create-asked n slots t h =
-    number-of (isDormant (conditionOf (getD slots t noSlot))) 23 ∙ ap (λ c. ruleNumber (cond (isDormant c) none (some 23))) (sym (condition-at n slots t h))
+pub create-asked : (n : ℕ) (slots : Slots) (wakes : List ℕ) (t : ℕ) → t < n → createRule slots t ≡ number (23 asks isDormant (getD (conditionsOf n slots wakes) t state.dormant) ∷ [])
+create-asked n slots wakes t h =
+    number-of (eqb (nibble (slots .states) t) 0) 23
+    ∙ ap (λ b. ruleNumber (cond b none (some 23))) (sym (dormant-state (nibble (slots .states) t) (nibble (slots .wants) t) (getD wakes t 0)))
+    ∙ ap (λ c. ruleNumber (cond (isDormant c) none (some 23))) (sym (condition-at n slots wakes t h))
 
 -- 22, and what is asked of the caller behind it
 module _ (o : Option ℕ) (known : (t : ℕ) → o ≡ some t → t < 16) where

@@ -1,27 +1,34 @@
 -- A Tick before the tick number at which the first sleeper wakes changes the tick number alone.
-use mathlib.Core.Path.{_≡_, refl, ap, sym, _∙_}
-use mathlib.Core.Bool.{Bool, true, false, cond}
+use mathlib.Core.Path.{_≡_, refl, ap, sym, subst, _∙_}
+use mathlib.Core.Logic.{_⊎_, inl, inr}
+use mathlib.Core.Bool.{Bool, true, false, cond, not}
+use mathlib.Core.Option.{Option, none, some}
 use mathlib.Core.List.{List, [], _∷_, map, append-nil, List·Memᴰ as Mem, List·Memᴰ·head as here}
 use Prim.Native.Nat.{ℕ, zero, suc, _+_, _≤_, _<_}
 use native.Mathlib.Omega.{arith}
-use lib.Dec.{T, eqb→eq}
-use lib.ListN.{length, getD}
+use lib.Dec.{T, ltb, eqb→eq, ltb→lt, nltb→le}
+use lib.ListN.{length, getD, set}
 use Rattle.model.specs.Searches.{_▷_, upTo}
-use Rattle.model.specs.State.{Condition, dormant, ready, asleep, waiting, condition, setTickNumber, arrive, owe}
-use Rattle.model.specs.Records.{Ready}
-use Rattle.model.specs.Calls.{sleepsUntil, sleepers, tick}
+use Rattle.model.specs.Plan.{Plan}
+use Rattle.model.specs.Priorities.{chosen}
+use Rattle.model.specs.State.{Condition, dormant, ready, asleep, waiting, State, condition, setTickNumber, allReady, arrive, owe}
+use Rattle.model.specs.Records.{Call, Create, Delay, Relinquish, End, Take, Give, Tick, Ready}
+use Rattle.model.specs.Calls.{create, sleepsUntil, sleepers, tick, rivalled, relinquish, end, aboveAll, heldByOthers, take, heir, handOver, give, byCaller, perform}
+use Rattle.model.proofs.Tests.{split}
 use Rattle.model.proofs.Searches.{filtered, upTo-at}
-use Rattle.plan.proofs.Loops.{length-listed}
+use Rattle.model.proofs.Invariant.{tag}
+use Rattle.plan.proofs.Loops.{length-listed, unlisted}
 use Rattle.machine.specs.declared.Machine.{Machine}
-use Rattle.machine.specs.declared.slots.Slot.{Slot}
-use Rattle.machine.specs.View.{conditionOf, noSlot, conditionsOf, idle}
-use Rattle.machine.specs.Contracts.{wakesAt, soonest}
+use Rattle.machine.specs.declared.calls.Called.{Called}
+use Rattle.machine.specs.declared.slots.Slots.{Slots}
+use Rattle.machine.specs.View.{conditionIn, conditionsOf, planOf, idle}
+use Rattle.machine.specs.Contracts.{wakesAt, soonest, Makes}
 use Rattle.machine.proofs.Views.{condition-at}
 use Rattle.machine.proofs.Meets.{alike}
 
 -- no sleeper wakes before this tick number
-pub record Quiet (threads : ℕ) (slots : List Slot) (until : ℕ) : Type 0 where
-  pub asleep' : (t n : ℕ) → t < threads → conditionOf (getD slots t noSlot) ≡ asleep n → until ≤ n
+pub record Quiet (threads : ℕ) (slots : Slots) (wakes : List ℕ) (until : ℕ) : Type 0 where
+  pub asleep' : (t n : ℕ) → t < threads → conditionIn slots wakes t ≡ asleep n → until ≤ n
 
 -- the soonest is at most the tick number at which any of them wakes
 soonest-least : (cs : List Condition) (t : ℕ) → soonest cs ≤ wakesAt (getD cs t dormant)
@@ -29,15 +36,66 @@ soonest-least [] t = omega arith
 soonest-least (c ∷ cs) zero = omega arith
 soonest-least (c ∷ cs) (suc t) = omega (arith, soonest-least cs t)
 
-module _ (threads : ℕ) (slots : List Slot) where
-  pub soonest-quiet : Quiet threads slots (soonest (conditionsOf threads slots))
+module _ (threads : ℕ) (slots : Slots) (wakes : List ℕ) where
+  pub soonest-quiet : Quiet threads slots wakes (soonest (conditionsOf threads slots wakes))
   soonest-quiet =
-      record { asleep' = λ t n h e. omega (arith, soonest-least (conditionsOf threads slots) t, ap wakesAt (condition-at threads slots t h ∙ e)) }
+      record { asleep' = λ t n h e. omega (arith, soonest-least (conditionsOf threads slots wakes) t, ap wakesAt (condition-at threads slots wakes t h ∙ e)) }
 
-  -- and before the tick number 0 nobody wakes
-  pub known-quiet : (known : Bool) → Quiet threads slots (cond known (soonest (conditionsOf threads slots)) 0)
-  known-quiet true = soonest-quiet
-  known-quiet false = record { asleep' = λ t n h e. omega arith }
+-- the same, of the conditions alone
+abbrev SleepFrom : List Condition → (until : ℕ) → Type 0
+SleepFrom cs until = (t n : ℕ) → getD cs t dormant ≡ asleep n → until ≤ n
+
+module _ (until : ℕ) where
+  -- another condition of one thread, that is no sleep
+  set-quiet : (cs : List Condition) (t : ℕ) (c : Condition) → ((n : ℕ) → c ≡ asleep n → until ≤ n) → SleepFrom cs until → SleepFrom (set cs t c) until
+  set-quiet [] t c h q u n e = q u n e
+  set-quiet (d ∷ cs) zero c h q zero n e = h n e
+  set-quiet (d ∷ cs) zero c h q (suc u) n e = q (suc u) n e
+  set-quiet (d ∷ cs) (suc t) c h q zero n e = q zero n e
+  set-quiet (d ∷ cs) (suc t) c h q (suc u) n e = set-quiet cs t c h (λ v k f. q (suc v) k f) u n e
+
+  ready-quiet : (ts : List ℕ) (cs : List Condition) → SleepFrom cs until → SleepFrom (allReady ts cs) until
+  ready-quiet [] cs q = q
+  ready-quiet (t ∷ ts) cs q = ready-quiet ts (set cs t ready) (set-quiet cs t ready (λ n e. absurd (omega (arith, ap tag e))) q)
+
+  either-quiet : (b : Bool) (st st' : State) → SleepFrom (st .conditions) until → SleepFrom (st' .conditions) until → SleepFrom ((cond b st st') .conditions) until
+  either-quiet true st st' q r = q
+  either-quiet false st st' q r = r
+
+  caller-quiet : (o : Option ℕ) (act : ℕ → State → State) (st : State) → SleepFrom (st .conditions) until → ((x : ℕ) → SleepFrom (act x st .conditions) until) → SleepFrom (byCaller o act st .conditions) until
+  caller-quiet none act st q r = q
+  caller-quiet (some x) act st q r = r x
+
+  hand-quiet : (p : Plan) (o : Option ℕ) (st : State) → SleepFrom (st .conditions) until → SleepFrom (handOver p o st .conditions) until
+  hand-quiet p none st q = q
+  hand-quiet p (some w) st q = either-quiet (aboveAll p w (st .holds)) _ _ (ready-quiet (w ∷ []) (st .conditions) q) q
+
+  -- only a Delay puts a thread to sleep
+  stays-quiet : (p : Plan) (st : State) (k : Call) → ((n : ℕ) → k ≡ Delay n → ⊥) → SleepFrom (st .conditions) until → SleepFrom (perform p k st .conditions) until
+  unfolding create tick relinquish end take give
+  stays-quiet p st (Create t) d q = ready-quiet (t ∷ []) (st .conditions) q
+  stays-quiet p st (Delay n) d q = absurd (d n refl)
+  stays-quiet p st Relinquish d q = caller-quiet (chosen p st) (relinquish p) st q (λ x. either-quiet (rivalled p x st) _ _ q q)
+  stays-quiet p st End d q = caller-quiet (chosen p st) end st q (λ x. set-quiet (st .conditions) x dormant (λ n e. absurd (omega (arith, ap tag e))) q)
+  stays-quiet p st (Take s) d q =
+      caller-quiet (chosen p st) (λ x. take p x s) st q
+      (λ x. either-quiet (aboveAll p x (heldByOthers x (st .holds))) _ _ q (set-quiet (st .conditions) x (waiting s) (λ n e. absurd (omega (arith, ap tag e))) q))
+  stays-quiet p st (Give s) d q = caller-quiet (chosen p st) (λ x. give p x s) st q (λ x. hand-quiet p (heir p st) _ q)
+  stays-quiet p st Tick d q = ready-quiet (sleepers (suc (st .tickNumber)) st) (st .conditions) q
+
+-- so every other call keeps the tick number before which nobody wakes
+pub call-quiet : {m : Machine} {x : Called} {k : Call} {until : ℕ} → Makes x m k → x .rule ≡ 0 → ((n : ℕ) → k ≡ Delay n → ⊥) → Quiet (m .plan .threads) (m .slots) (m .wakes) until → Quiet (x .machine .plan .threads) (x .machine .slots) (x .machine .wakes) until
+call-quiet {m} {x} {k} {until} made z d q = record { asleep' = λ t n h e. after t n (condition-at (x .machine .plan .threads) (x .machine .slots) (x .machine .wakes) t h ∙ e) }
+  where
+    before : SleepFrom (idle m .conditions) until
+    before t n e = go (split (ltb t (m .plan .threads)))
+      where
+        go : T (ltb t (m .plan .threads)) ⊎ T (not (ltb t (m .plan .threads))) → until ≤ n
+        go (inl b) = let h = ltb→lt t (m .plan .threads) b in q .asleep' t n h (sym (condition-at (m .plan .threads) (m .slots) (m .wakes) t h) ∙ e)
+        go (inr b) = absurd (omega (arith, ap tag (sym (unlisted (conditionIn (m .slots) (m .wakes)) (m .plan .threads) t dormant (nltb→le t (m .plan .threads) b)) ∙ e)))
+
+    after : SleepFrom (idle (x .machine) .conditions) until
+    after = subst (λ cs. SleepFrom cs until) (sym (ap (λ (st : State). st .conditions) (made .made z))) (stays-quiet until (planOf m) (idle m) k d before)
 
 no-member : (l : List ℕ) → ((t : ℕ) → Mem t l → ⊥) → l ≡ []
 no-member [] f = refl
@@ -49,15 +107,15 @@ sleeps n ready t = absurd t
 sleeps n (asleep k) t = ap asleep (eqb→eq k n t)
 sleeps n (waiting s) t = absurd t
 
-module _ (m : Machine) (until : ℕ) (q : Quiet (m .plan .threads) (m .slots) until) where
+module _ (m : Machine) (until : ℕ) (q : Quiet (m .plan .threads) (m .slots) (m .wakes) until) where
   nobody-wakes : (n : ℕ) → n < until → sleepers n (idle m) ≡ []
   nobody-wakes n h = no-member (sleepers n (idle m)) none
     where
       none : (t : ℕ) → Mem t (sleepers n (idle m)) → ⊥
       none t i =
           let r = filtered (λ u. sleepsUntil n (condition (idle m) u)) (upTo (length (idle m .conditions))) i in
-          let l : t < m .plan .threads = omega (arith, upTo-at (length (idle m .conditions)) (r .0), length-listed (λ u. conditionOf (getD (m .slots) u noSlot)) (m .plan .threads)) in
-          omega (arith, q .asleep' t n l (sym (condition-at (m .plan .threads) (m .slots) t l) ∙ sleeps n (condition (idle m) t) (r .1)))
+          let l : t < m .plan .threads = omega (arith, upTo-at (length (idle m .conditions)) (r .0), length-listed (conditionIn (m .slots) (m .wakes)) (m .plan .threads)) in
+          omega (arith, q .asleep' t n l (sym (condition-at (m .plan .threads) (m .slots) (m .wakes) t l) ∙ sleeps n (condition (idle m) t) (r .1)))
 
   pub quiet-tick : m .tick .0 + 1 < until → tick (idle m) ≡ setTickNumber (m .tick .0 + 1) (idle m)
   unfolding tick

@@ -1,10 +1,11 @@
 -- No list grows past its room: each thread stands once in the queue or in the waits, and each section is held once.
 use mathlib.Core.Path.{_≡_, refl, ap, sym, _∙_}
 use mathlib.Core.Logic.{_⊎_, inl, inr, _≢_}
-use mathlib.Core.Bool.{Bool, not}
-use mathlib.Core.List.{List, _∷_, _++_, List·Memᴰ as Mem, List·Memᴰ·cases-cons as cases-cons, List·Memᴰ·append-cases as append-cases, Memᴰ·cast as cast}
+use mathlib.Core.Bool.{Bool, true, false, cond, not}
+use mathlib.Core.List.{List, [], _∷_, _++_, List·Memᴰ as Mem, List·Memᴰ·head as here, List·Memᴰ·tail as there, List·Memᴰ·cases-cons as cases-cons, List·Memᴰ·append-cases as append-cases, Memᴰ·cast as cast}
 use Prim.Native.Nat.{ℕ, _+_, _≤_, _<_}
 use native.Mathlib.Omega.{arith}
+use borrow.Author.Tests.{ne-eqb}
 use lib.Dec.{T, eqb, ltb, ltb→lt, T-not}
 use lib.ListN.{length, length-append}
 use Rattle.model.specs.Searches.{filter, upTo, without}
@@ -12,6 +13,7 @@ use Rattle.model.specs.Plan.{base, ceiling}
 use Rattle.model.specs.State.{ready, Hold, hold, isHold, condition}
 use Rattle.model.specs.Priorities.{heldCeiling}
 use Rattle.model.specs.Calls.{sleepsUntil, sleepers, aboveAll, heldByOthers, wanted}
+use Rattle.model.specs.Formed.{times}
 use Rattle.model.proofs.Tests.{and-both, eq-test, ne-test, equal?}
 use Rattle.model.proofs.Searches.{all-at, any-fails, filtered, in-filter, Pairwise, pairwise-filter, pairwise-append, pairwise-at, Distinct, stayed, distinct-without, upTo-distinct, pigeonhole}
 use Rattle.model.proofs.Ceiling.{ceiling-ge}
@@ -22,11 +24,11 @@ use Rattle.model.proofs.Bounds.{queued-below, waiting-below, sections-fit}
 use Rattle.model.proofs.Give.{last-held}
 use Rattle.plan.proofs.Laws.{threads-view}
 use Rattle.machine.specs.declared.Machine.{Machine}
-use Rattle.machine.specs.Lists.{queued, held}
+use Rattle.lists.specs.Lists.{queued, held}
 use Rattle.machine.specs.View.{planOf, idle}
 use Rattle.machine.proofs.Admitted.{Creates, Runs, Takes, Gives}
 use Rattle.machine.proofs.Facts.{Facts, facts}
-use Rattle.machine.proofs.Views.{length-queued, length-held}
+use Rattle.lists.proofs.Laws.{length-queued, length-held}
 
 module _ {m : Machine} (f : Facts m) where
   pub queued-known : (t : ℕ) → Mem t (queued (m .queue)) → t < m .plan .threads
@@ -117,6 +119,23 @@ module _ {m : Machine} {x : ℕ} (r : Runs m x) where
 
 is-hold : (h : Hold) {s x : ℕ} → h .section ≡ s → h .thread ≡ x → T (isHold s x h)
 is-hold h {s} {x} e q = and-both (eqb (h .section) s) (eqb (h .thread) x) (eq-test (h .section) s e) (eq-test (h .thread) x q)
+
+-- no section is held twice, so nobody holds one twice
+pub held-once : (s x : ℕ) (hs : List Hold) → Pairwise OtherSection hs → times (isHold s x) hs ≤ 1
+held-once s x [] once = omega arith
+held-once s x (h ∷ hs) once = go (equal? (h .section) s) (held-once s x hs (once .1))
+  where
+    none : h .section ≡ s → (l : List Hold) → ((k : Hold) → Mem k l → OtherSection h k) → times (isHold s x) l ≡ 0
+    none e [] d = refl
+    none e (k ∷ l) d = rw (ne-eqb (k .section) s (λ q. d k (here refl) (e ∙ sym q)), none e l (λ j i. d j (there i)))
+
+    few : (b : Bool) → times (isHold s x) hs ≡ 0 → length (cond b (h ∷ filter (isHold s x) hs) (filter (isHold s x) hs)) ≤ 1
+    few true z = omega arith
+    few false z = omega arith
+
+    go : (h .section ≡ s) ⊎ (h .section ≢ s) → times (isHold s x) hs ≤ 1 → times (isHold s x) (h ∷ hs) ≤ 1
+    go (inl e) rest = few (isHold s x h) (none e hs (once .0))
+    go (inr d) rest = rw (ne-eqb (h .section) s d) rest
 
 -- holds of other sections than s leave room for one of s
 hold-room : {m : Machine} (f : Facts m) (s x : ℕ) (hs : List Hold) → s < m .plan .sections → Pairwise OtherSection hs → ((h : Hold) → Mem h hs → Mem h (held (m .holds)) × (s ≢ h .section)) → length hs < 16

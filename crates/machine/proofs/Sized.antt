@@ -21,8 +21,8 @@ use Rattle.machine.proofs.state.State.Laws.{the-laws as state-laws}
 pub reports-size : (r : Reports) → Is (row reports-type) r (val reports-type reports-laws r ∷ []) → length (r .items) ≡ 17
 reports-size r g = sym (length-map (r .items) _) ∙ (owed reports-type reports-laws r _ g) .0 .1 .0 .1
 
-pub slots-size : (m : Machine) → Is (row machine-type) m (val machine-type machine-laws m ∷ []) → length (m .slots) ≡ 16
-slots-size m g = sym (length-map (m .slots) _) ∙ (owed machine-type machine-laws m _ g) .1 .1 .0 .1 .0 .1
+pub wakes-size : (m : Machine) → Is (row machine-type) m (val machine-type machine-laws m ∷ []) → length (m .wakes) ≡ 16
+wakes-size m g = sym (length-map (m .wakes) _) ∙ (owed machine-type machine-laws m _ g) .1 .1 .1 .0 .1 .0 .1
 
 pub due-size : (s : State) → Is (row state-type) s (val state-type state-laws s ∷ []) → length (s .due .items) ≡ 17
 due-size s g = reports-size (s .due) ((owed state-type state-laws s _ g) .1 .0)

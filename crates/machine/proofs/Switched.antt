@@ -17,7 +17,8 @@ use Rattle.model.proofs.Nesting.{chosen-is}
 use Rattle.machine.specs.declared.reports.Reports.{Reports}
 use Rattle.machine.specs.declared.Machine.{Machine}
 use Rattle.machine.specs.declared.calls.Called.{Called}
-use Rattle.machine.specs.Lists.{threadOf, numbered, owed}
+use Rattle.lists.specs.Lists.{numbered}
+use Rattle.machine.specs.Lists.{threadOf, owed}
 use Rattle.machine.specs.View.{planOf, viewed, idle}
 use Rattle.machine.specs.Contracts.{reportsOf}
 use Rattle.machine.specs.Steps.{Settles}

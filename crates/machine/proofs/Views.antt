@@ -1,9 +1,9 @@
--- What the views of the code's arrays are: how long, what stands where, what a store changes; and numbers for threads.
-use mathlib.Core.Path.{_≡_, refl, ap, sym, _∙_}
+-- What the views of the code's words and arrays are: how long, what stands where, what a change of one entry changes; numbers for threads.
+use mathlib.Core.Path.{_≡_, refl, ap, ap₂, sym, _∙_}
 use mathlib.Core.Logic.{_⊎_, inl, inr, _≢_}
-use mathlib.Core.List.{List, [], map}
+use mathlib.Core.List.{List, map}
 use mathlib.Core.Option.{Option, none, some}
-use Prim.Native.Nat.{ℕ, zero, suc, _<_}
+use Prim.Native.Nat.{ℕ, _<_}
 use native.Mathlib.Omega.{arith}
 use borrow.Author.Tests.{ne-eqb}
 use lib.Dec.{eqb}
@@ -11,71 +11,64 @@ use lib.ListN.{length, getD, set, length-set}
 use lib.Seq.{getD-set-same, getD-set-other, ext-getD}
 use Rattle.model.specs.Searches.{upTo, same}
 use Rattle.model.specs.Plan.{threads}
-use Rattle.model.specs.State.{dormant}
+use Rattle.model.specs.State.{dormant, asleep, waiting}
 use Rattle.model.proofs.Tests.{equal?}
-use Rattle.plan.specs.View.{inUse}
 use Rattle.plan.proofs.Loops.{listed, length-listed}
 use Rattle.plan.proofs.Laws.{threads-view}
 use Rattle.machine.specs.declared.Machine.{Machine}
-use Rattle.machine.specs.declared.queue.Queue.{Queue}
-use Rattle.machine.specs.declared.holds.Holds.{Holds}
 use Rattle.machine.specs.declared.reports.Reports.{Reports}
-use Rattle.machine.specs.declared.slots.Slot.{Slot}
-use Rattle.machine.specs.Lists.{numbered, threadOf, queued, latestFirst, holdOf, noHold, held, reportOf, noReport, owed}
-use Rattle.machine.specs.View.{conditionOf, noSlot, conditionsOf, planOf, idle}
+use Rattle.machine.specs.declared.slots.Slots.{Slots}
+use Rattle.lists.specs.Words.{nibble}
+use Rattle.lists.specs.Lists.{numbered}
+use Rattle.lists.proofs.Laws.{read-set, read-other}
+use Rattle.machine.specs.Lists.{threadOf, reportOf, noReport, owed}
+use Rattle.machine.specs.View.{conditionOf, conditionIn, conditionsOf, planOf, idle}
+use Rattle.machine.specs.Contracts.{placed, waitsFor}
 
 -- a view has as many entries as are in use
-
-pub length-queued : (q : Queue) → length (queued q) ≡ q .count
-length-queued q = length-listed (λ i. getD (q .items) i 0) (q .count)
-
-pub queued-empty : (q : Queue) → q .count ≡ 0 → queued q ≡ []
-queued-empty q e = ap (λ n. inUse n (q .items)) e
-
-pub length-latestFirst : {A : Type 0} (n : ℕ) (f : ℕ → A) → length (latestFirst n f) ≡ n
-length-latestFirst zero f = refl
-length-latestFirst (suc n) f = ap suc (length-latestFirst n f)
-
-pub length-held : (hs : Holds) → length (held hs) ≡ hs .count
-length-held hs = length-latestFirst (hs .count) (λ i. holdOf (getD (hs .items) i noHold))
-
 pub length-owed : (rs : Reports) → length (owed rs) ≡ rs .count
 length-owed rs = length-listed (λ i. reportOf (getD (rs .items) i noReport)) (rs .count)
 
 -- there is a condition for each thread of the plan
 pub sized : (m : Machine) → length (idle m .conditions) ≡ threads (planOf m)
-sized m = length-listed (λ t. conditionOf (getD (m .slots) t noSlot)) (m .plan .threads) ∙ sym (threads-view (m .plan))
+sized m = length-listed (conditionIn (m .slots) (m .wakes)) (m .plan .threads) ∙ sym (threads-view (m .plan))
 
--- what a store in the array changes in the view of its first n entries
-pub listed-set : {A B : Type 0} (f : A → B) (n : ℕ) (items : List A) (t : ℕ) (a d : A)
-    → t < length items
-    → map (λ i. f (getD (set items t a) i d)) (upTo n) ≡ set (map (λ i. f (getD items i d)) (upTo n)) t (f a)
-listed-set {A} {B} f n items t a d h = ext-getD (f d) (seen (set items t a)) (set (seen items) t (f a)) (size (set items t a) ∙ sym (length-set (seen items) t (f a) ∙ size items)) at
+-- a list made by counting, where what it is made of changes at one place
+pub changed-at : {A : Type 0} (f g : ℕ → A) (n t : ℕ) → ((i : ℕ) → i ≢ t → g i ≡ f i) → map g (upTo n) ≡ set (map f (upTo n)) t (g t)
+changed-at {A} f g n t same' = ext-getD (g t) (map g (upTo n)) (set (map f (upTo n)) t (g t)) (length-listed g n ∙ sym (length-set (map f (upTo n)) t (g t) ∙ length-listed f n)) at
   where
-    seen : List A → List B
-    seen l = map (λ i. f (getD l i d)) (upTo n)
-
-    size : (l : List A) → length (seen l) ≡ n
-    size l = length-listed (λ i. f (getD l i d)) n
-
-    here : (l : List A) (i : ℕ) → i < n → getD (seen l) i (f d) ≡ f (getD l i d)
-    here l i k = listed (λ i. f (getD l i d)) n i (f d) k
-
-    at : (i : ℕ) → i < length (seen (set items t a)) → getD (seen (set items t a)) i (f d) ≡ getD (set (seen items) t (f a)) i (f d)
+    at : (i : ℕ) → i < length (map g (upTo n)) → getD (map g (upTo n)) i (g t) ≡ getD (set (map f (upTo n)) t (g t)) i (g t)
     at i k = go (equal? i t)
       where
         b : i < n
-        b = omega (arith, size (set items t a))
+        b = omega (arith, length-listed g n)
 
-        go : (i ≡ t) ⊎ (i ≢ t) → getD (seen (set items t a)) i (f d) ≡ getD (set (seen items) t (f a)) i (f d)
-        go (inl e) = here (set items t a) i b ∙ rw e (ap f (getD-set-same items t a d h) ∙ sym (getD-set-same (seen items) t (f a) (f d) (omega (arith, b, size items))))
-        go (inr e) = here (set items t a) i b ∙ ap f (getD-set-other items t i a d e) ∙ sym (getD-set-other (seen items) t i (f a) (f d) e ∙ here items i b)
+        go : (i ≡ t) ⊎ (i ≢ t) → getD (map g (upTo n)) i (g t) ≡ getD (set (map f (upTo n)) t (g t)) i (g t)
+        go (inl e) = listed g n i (g t) b ∙ rw e (sym (getD-set-same (map f (upTo n)) t (g t) (g t) (omega (arith, b, length-listed f n))))
+        go (inr d) = listed g n i (g t) b ∙ same' i d ∙ sym (getD-set-other (map f (upTo n)) t i (g t) (g t) d ∙ listed f n i (g t) b)
 
-pub conditions-set : (n : ℕ) (slots : List Slot) (t : ℕ) (s : Slot) → t < length slots → conditionsOf n (set slots t s) ≡ set (conditionsOf n slots) t (conditionOf s)
-conditions-set n slots t s h = listed-set conditionOf n slots t s noSlot h
+pub condition-at : (n : ℕ) (slots : Slots) (wakes : List ℕ) (t : ℕ) → t < n → getD (conditionsOf n slots wakes) t dormant ≡ conditionIn slots wakes t
+condition-at n slots wakes t h = listed (conditionIn slots wakes) n t dormant h
 
-pub condition-at : (n : ℕ) (slots : List Slot) (t : ℕ) → t < n → getD (conditionsOf n slots) t dormant ≡ conditionOf (getD slots t noSlot)
-condition-at n slots t h = listed (λ i. conditionOf (getD slots i noSlot)) n t dormant h
+-- what another condition of one thread changes: its number, the section that it waits for, the tick number that it sleeps until
+
+module _ (n : ℕ) (slots : Slots) (wakes : List ℕ) (t : ℕ) where
+  pub placed-seen : (k : ℕ) → k < 16 → conditionsOf n (placed slots t k) wakes ≡ set (conditionsOf n slots wakes) t (conditionOf k (nibble (slots .wants) t) (getD wakes t 0))
+  placed-seen k h =
+      changed-at (conditionIn slots wakes) (conditionIn (placed slots t k) wakes) n t (λ i d. ap (λ s. conditionOf s (nibble (slots .wants) i) (getD wakes i 0)) (read-other (slots .states) t i k h d))
+      ∙ ap (λ s. set (conditionsOf n slots wakes) t (conditionOf s (nibble (slots .wants) t) (getD wakes t 0))) (read-set (slots .states) t k h)
+
+  pub waits-seen : (k : ℕ) → k < 16 → conditionsOf n (waitsFor slots t k) wakes ≡ set (conditionsOf n slots wakes) t (waiting k)
+  waits-seen k h =
+      changed-at (conditionIn slots wakes) (conditionIn (waitsFor slots t k) wakes) n t
+      (λ i d. ap₂ (λ (s w : ℕ). conditionOf s w (getD wakes i 0)) (read-other (slots .states) t i 3 (omega arith) d) (read-other (slots .wants) t i k h d))
+      ∙ ap₂ (λ (s w : ℕ). set (conditionsOf n slots wakes) t (conditionOf s w (getD wakes t 0))) (read-set (slots .states) t 3 (omega arith)) (read-set (slots .wants) t k h)
+
+  pub sleeps-seen : (k : ℕ) → t < length wakes → conditionsOf n (placed slots t 2) (set wakes t k) ≡ set (conditionsOf n slots wakes) t (asleep k)
+  sleeps-seen k h =
+      changed-at (conditionIn slots wakes) (conditionIn (placed slots t 2) (set wakes t k)) n t
+      (λ i d. ap₂ (λ (s w : ℕ). conditionOf s (nibble (slots .wants) i) w) (read-other (slots .states) t i 2 (omega arith) d) (getD-set-other wakes t i k 0 d))
+      ∙ ap₂ (λ (s w : ℕ). set (conditionsOf n slots wakes) t (conditionOf s (nibble (slots .wants) t) w)) (read-set (slots .states) t 2 (omega arith)) (getD-set-same wakes t k 0 h)
 
 -- nobody is 255, and every other number is the thread's own
 

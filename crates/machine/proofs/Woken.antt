@@ -6,25 +6,28 @@ use mathlib.Core.List.{List, [], _∷_, _++_, map, append-nil, append-assoc}
 use Prim.Native.Nat.{ℕ, zero, suc, _+_, _-_, _≤_, _<_}
 use native.Mathlib.Omega.{arith}
 use lib.Dec.{T}
-use lib.ListN.{length, getD, set, length-set, length-append, length-map}
+use lib.ListN.{length, set, length-append, length-map}
 use Rattle.model.specs.Searches.{filter, upTo}
 use Rattle.model.specs.State.{Condition, ready, condition, allReady}
 use Rattle.model.specs.Records.{Ready}
 use Rattle.model.specs.Calls.{sleepsUntil, sleepers}
 use Rattle.model.proofs.Tests.{split, is-true, is-false}
 use Rattle.plan.proofs.Loops.{length-listed}
-use Rattle.machine.specs.declared.slots.Slot.{Slot}
-use Rattle.machine.specs.declared.queue.Queue.{Queue}
+use Rattle.machine.specs.declared.slots.Slots.{Slots}
+use Rattle.lists.specs.declared.queue.Queue.{Queue}
 use Rattle.machine.specs.declared.reports.Reports.{Reports}
 use Rattle.machine.specs.declared.Machine.{Machine}
-use Rattle.machine.specs.Lists.{queued, owed}
-use Rattle.machine.specs.View.{conditionOf, noSlot, conditionsOf, idle}
+use Rattle.lists.specs.Lists.{queued}
+use Rattle.machine.specs.Lists.{owed}
+use Rattle.machine.specs.View.{conditionIn, conditionsOf, idle}
+use Rattle.machine.specs.Contracts.{placed}
 use Rattle.machine.proofs.Facts.{Facts}
 use Rattle.machine.proofs.Arrays.{upTo-more, map-append}
-use Rattle.machine.proofs.Queues.{filter-kept, filter-dropped}
-use Rattle.machine.proofs.Views.{length-queued, condition-at}
+use Rattle.lists.proofs.Laws.{filter-kept, filter-dropped}
+use Rattle.lists.proofs.Laws.{length-queued}
+use Rattle.machine.proofs.Views.{condition-at, placed-seen}
 use Rattle.machine.proofs.Room.{woken-room}
-use Rattle.machine.proofs.Meets.{placed-seen, owed-count}
+use Rattle.machine.proofs.Meets.{owed-count}
 
 ready-more : (ts : List ℕ) (t : ℕ) (cs : List Condition) → allReady (ts ++ (t ∷ [])) cs ≡ set (allReady ts cs) t ready
 ready-more [] t cs = refl
@@ -49,40 +52,37 @@ filter-grows f i (suc k) =
 abbrev pub woken : Machine → (number i : ℕ) → List ℕ
 woken m n i = filter (λ t. sleepsUntil n (condition (idle m) t)) (upTo i)
 
-pub record Woken (m : Machine) (number : ℕ) (slots : List Slot) (queue : Queue) (rs : Reports) (i : ℕ) : Type 0 where
-  pub size : length slots ≡ 16
-  pub conditions : conditionsOf (m .plan .threads) slots ≡ allReady (woken m number i) (idle m .conditions)
+pub record Woken (m : Machine) (number : ℕ) (slots : Slots) (queue : Queue) (rs : Reports) (i : ℕ) : Type 0 where
+  pub conditions : conditionsOf (m .plan .threads) slots (m .wakes) ≡ allReady (woken m number i) (idle m .conditions)
   pub queue' : queued queue ≡ queued (m .queue) ++ woken m number i
   pub reports : owed rs ≡ map Ready (woken m number i)
 
 module _ (m : Machine) (n : ℕ) where
   -- before the first turn nobody is woken
-  pub woken-begin : (rs : Reports) → length (m .slots) ≡ 16 → owed rs ≡ [] → Woken m n (m .slots) (m .queue) rs 0
-  woken-begin rs size e = record { size = size; conditions = refl; queue' = sym (append-nil (queued (m .queue))); reports = e }
+  pub woken-begin : (rs : Reports) → owed rs ≡ [] → Woken m n (m .slots) (m .queue) rs 0
+  woken-begin rs e = record { conditions = refl; queue' = sym (append-nil (queued (m .queue))); reports = e }
 
   counted : length (idle m .conditions) ≡ m .plan .threads
-  counted = length-listed (λ t. conditionOf (getD (m .slots) t noSlot)) (m .plan .threads)
+  counted = length-listed (conditionIn (m .slots) (m .wakes)) (m .plan .threads)
 
-  module _ {slots : List Slot} {queue : Queue} {rs : Reports} {i : ℕ} (w : Woken m n slots queue rs i) where
+  module _ {slots : Slots} {queue : Queue} {rs : Reports} {i : ℕ} (w : Woken m n slots queue rs i) where
     -- after all turns they are all the sleepers
     pub woken-done : i ≡ m .plan .threads → Woken m n slots queue rs (length (idle m .conditions))
     woken-done e =
         let z : i ≡ length (idle m .conditions) = e ∙ sym counted in
         record {
-          size = w .size;
           conditions = w .conditions ∙ ap (λ k. allReady (woken m n k) (idle m .conditions)) z;
           queue' = w .queue' ∙ ap (λ k. queued (m .queue) ++ woken m n k) z;
           reports = w .reports ∙ ap (λ k. map Ready (woken m n k)) z;
         }
 
     module _ (h : i < m .plan .threads) where
-      sleeps-at : {b : Bool} → b ≡ sleepsUntil n (conditionOf (getD (m .slots) i noSlot)) → sleepsUntil n (condition (idle m) i) ≡ b
-      sleeps-at e = ap (sleepsUntil n) (condition-at (m .plan .threads) (m .slots) i h) ∙ sym e
+      sleeps-at : {b : Bool} → b ≡ sleepsUntil n (conditionIn (m .slots) (m .wakes) i) → sleepsUntil n (condition (idle m) i) ≡ b
+      sleeps-at e = ap (sleepsUntil n) (condition-at (m .plan .threads) (m .slots) (m .wakes) i h) ∙ sym e
 
       -- no sleeper, or another tick number
-      pub passes : false ≡ sleepsUntil n (conditionOf (getD (m .slots) i noSlot)) → Woken m n slots queue rs (i + 1)
+      pub passes : false ≡ sleepsUntil n (conditionIn (m .slots) (m .wakes) i) → Woken m n slots queue rs (i + 1)
       passes e = record {
-        size = w .size;
         conditions = w .conditions ∙ ap (λ l. allReady l (idle m .conditions)) z;
         queue' = w .queue' ∙ ap (λ l. queued (m .queue) ++ l) z;
         reports = w .reports ∙ ap (map Ready) z;
@@ -91,7 +91,7 @@ module _ (m : Machine) (n : ℕ) where
           z : woken m n i ≡ woken m n (i + 1)
           z = sym (ap (filter (λ t. sleepsUntil n (condition (idle m) t))) (upTo-more i) ∙ filter-dropped (λ t. sleepsUntil n (condition (idle m) t)) (upTo i) i (sleeps-at e))
 
-      module _ (e : true ≡ sleepsUntil n (conditionOf (getD (m .slots) i noSlot))) where
+      module _ (e : true ≡ sleepsUntil n (conditionIn (m .slots) (m .wakes) i)) where
         one-more : woken m n (i + 1) ≡ woken m n i ++ (i ∷ [])
         one-more = ap (filter (λ t. sleepsUntil n (condition (idle m) t))) (upTo-more i) ∙ filter-kept (λ t. sleepsUntil n (condition (idle m) t)) (upTo i) i (sleeps-at e)
 
@@ -106,15 +106,13 @@ module _ (m : Machine) (n : ℕ) where
             (omega (arith, length-queued queue, woken-room f n), omega (arith, woken-room f n))
 
         -- the slot, the queue and the reports with this one
-        pub wakes : {slots' : List Slot} {queue' : Queue} {rs' : Reports}
-            → m .plan .threads ≤ 16
-            → slots' ≡ set slots i (record { state = 1; value = 0 })
+        pub wakes : {slots' : Slots} {queue' : Queue} {rs' : Reports}
+            → slots' ≡ placed slots i 1
             → queued queue' ≡ queued queue ++ (i ∷ [])
             → owed rs' ≡ owed rs ++ (Ready i ∷ [])
             → Woken m n slots' queue' rs' (i + 1)
-        wakes fits s q r = record {
-          size = ap length s ∙ length-set slots i (record { state = 1; value = 0 }) ∙ w .size;
-          conditions = placed-seen (m .plan .threads) slots i (record { state = 1; value = 0 }) (w .size) (omega arith) s ∙ ap (λ cs. set cs i ready) (w .conditions) ∙ sym (ap (λ l. allReady l (idle m .conditions)) one-more ∙ ready-more (woken m n i) i (idle m .conditions));
+        wakes s q r = record {
+          conditions = ap (λ (k : Slots). conditionsOf (m .plan .threads) k (m .wakes)) s ∙ placed-seen (m .plan .threads) slots (m .wakes) i 1 (omega arith) ∙ ap (λ cs. set cs i ready) (w .conditions) ∙ sym (ap (λ l. allReady l (idle m .conditions)) one-more ∙ ready-more (woken m n i) i (idle m .conditions));
           queue' = q ∙ ap (λ l. l ++ (i ∷ [])) (w .queue') ∙ append-assoc (queued (m .queue)) (woken m n i) (i ∷ []) ∙ sym (ap (λ l. queued (m .queue) ++ l) one-more);
           reports = r ∙ ap (λ l. l ++ (Ready i ∷ [])) (w .reports) ∙ sym (ap (map Ready) one-more ∙ map-append Ready (woken m n i) (i ∷ []));
         }

@@ -1,11 +1,11 @@
 -- What the machine's functions ask and answer.
 use mathlib.Core.Path.{_≡_}
-use mathlib.Core.Bool.{Bool, cond, not, _&&_}
+use mathlib.Core.Bool.{Bool, false, cond, not, _&&_}
 use mathlib.Core.List.{List, [], _∷_, map, List·Memᴰ as Mem}
-use mathlib.Core.Option.{Option, some, Option·map}
+use mathlib.Core.Option.{Option, none, some, Option·map}
 use Prim.Native.Nat.{ℕ, _+_, max, min, _≤_, _<_}
-use lib.Dec.{T, eqb}
-use Rattle.model.specs.Searches.{any, firstGreatest, greatest, same, upTo}
+use lib.Dec.{T, eqb, leb, ltb}
+use Rattle.model.specs.Searches.{all, any, firstGreatest, greatest, same, upTo}
 use Rattle.model.specs.Plan as plan
 use Rattle.model.specs.State as state
 use Rattle.model.specs.State.{Condition, dormant, ready, asleep, waiting}
@@ -13,16 +13,19 @@ use Rattle.model.specs.Priorities.{chosen}
 use Rattle.model.specs.Records as records
 use Rattle.model.specs.Calls.{perform}
 use Rattle.model.specs.Rules.{broken}
-use Rattle.model.specs.Formed.{formed, lastTick, lastWake}
+use Rattle.model.specs.Formed.{formed, times, lastTick, lastWake}
 use Rattle.plan.specs.View as plans
 use Rattle.plan.specs.declared.Plan.{Plan}
-use Rattle.machine.specs.declared.queue.Queue.{Queue}
-use Rattle.machine.specs.declared.holds.Holds.{Holds}
+use Rattle.lists.specs.declared.queue.Queue.{Queue}
+use Rattle.lists.specs.declared.holds.Holds.{Holds}
+use Rattle.lists.specs.Words.{withNibble}
+use Rattle.lists.specs.Lists.{numbered, queued, ceilingIn}
 use Rattle.machine.specs.declared.Machine.{Machine}
+use Rattle.machine.specs.declared.slots.Slots.{Slots}
 use Rattle.machine.specs.declared.calls.Called.{Called}
 use Rattle.machine.specs.declared.reports.Reports.{Reports}
 use Rattle.machine.specs.declared.reports.Report.{Report}
-use Rattle.machine.specs.Lists.{numbered, queued, owed, ceilingIn}
+use Rattle.machine.specs.Lists.{owed}
 use Rattle.machine.specs.View.{planOf, viewed, idle}
 use Rattle.machine.specs.Rules.{ruleNumber}
 
@@ -40,24 +43,44 @@ chosenIn base ceilings q hs ws = firstGreatest (priorityIn base ceilings hs ws) 
 abbrev pub rivalledIn : (base : ℕ → ℕ) (ceilings queue : List ℕ) → List state.Hold → (waits : List ℕ) (thread : ℕ) → Bool
 rivalledIn base ceilings q hs ws x = any (λ t. not (eqb t x) && eqb (priorityIn base ceilings hs ws t) (priorityIn base ceilings hs ws x)) q
 
--- the counts are within the arrays, and the threads in the queue are threads
-pub record Listed (threads : ℕ) (queue : Queue) (holds : Holds) (waits : Queue) : Type 0 where
-  pub threads' : threads ≤ 16
+-- whether an heir's base is above every ceiling of these holds; nobody inherits where nobody waits
+abbrev pub inheritsIn : (base : ℕ → ℕ) (ceilings : List ℕ) → List state.Hold → Option ℕ → Bool
+inheritsIn base ceilings hs none = false
+inheritsIn base ceilings hs (some w) = all (λ h. ltb (ceilingIn ceilings h) (base w)) hs
+
+-- a thread comes into another condition, or waits for a section
+
+abbrev pub placed : Slots → (thread state : ℕ) → Slots
+placed s t k = record { states = withNibble (s .states) t k; wants = s .wants }
+
+abbrev pub waitsFor : Slots → (thread section : ℕ) → Slots
+waitsFor s t n = record { states = withNibble (s .states) t 3; wants = withNibble (s .wants) t n }
+
+-- a thread of this condition's number stands once in the queue if it is ready, once in the waits if it waits, and nowhere else
+abbrev pub standsBy : (queue waits : List ℕ) (state thread : ℕ) → Bool
+standsBy q ws s t = eqb (times (λ u. eqb u t) q) (cond (eqb s 1) 1 0) && eqb (times (λ u. eqb u t) ws) (cond (leb 3 s) 1 0)
+
+-- the counts are within the words
+pub record Counts (queue : Queue) (holds : Holds) (waits : Queue) : Type 0 where
   pub queue' : queue .count ≤ 16
   pub holds' : holds .count ≤ 16
   pub waits' : waits .count ≤ 16
-  pub known : (t : ℕ) → Mem t (queued queue) → t < 16
+
+-- and those in the queue and in the waits are threads
+pub record Listed (threads : ℕ) (queue : Queue) (holds : Holds) (waits : Queue) : Type 0 where
+  pub threads' : threads ≤ 16
+  pub counts : Counts queue holds waits
+  pub known : (t : ℕ) → Mem t (queued queue) → t < threads
+  pub waiting' : (t : ℕ) → Mem t (queued waits) → t < threads
 
 -- A machine with nothing due is well formed: the answer is not 12. Every method asks for this, and for what the rules of its call say.
 pub record Formed (m : Machine) : Type 0 where
   pub passes : T (formed (planOf m) (idle m))
 
--- the counts are within the arrays
+-- the counts of a machine are within their arrays and words
 pub record Counted (m : Machine) : Type 0 where
   pub fits : plans.Fits (m .plan)
-  pub queue' : m .queue .count ≤ 16
-  pub waits' : m .waits .count ≤ 16
-  pub holds' : m .holds .count ≤ 16
+  pub counts : Counts (m .queue) (m .holds) (m .waits)
 
 -- the ceilings of the machine's plan, computed once and passed beside it
 abbrev pub Ceilings : Machine → List ℕ → Type 0
@@ -86,7 +109,7 @@ pub record Ticks (m : Machine) : Type 0 where
   pub formed : Formed m
   pub room : m .tick .0 < lastTick
 
--- what finding the chosen thread asks: the plan passes, and the lists are within their arrays
+-- what finding the chosen thread asks: the plan passes, and the lists are within their words
 pub record Chooses (m : Machine) (ceilings : List ℕ) : Type 0 where
   pub valid : T (plan.validPlan (planOf m))
   pub listed : Listed (m .plan .threads) (m .queue) (m .holds) (m .waits)
@@ -121,7 +144,7 @@ abbrev pub told : Called → Report → Called
 told c given =
     let m = c .machine in
     record {
-      machine = record { plan = m .plan; tick = m .tick; slots = m .slots; queue = m .queue; holds = m .holds; waits = m .waits; reported = cond (eqb (given .kind) 17) (given .who) (m .reported) };
+      machine = record { plan = m .plan; tick = m .tick; slots = m .slots; wakes = m .wakes; queue = m .queue; holds = m .holds; waits = m .waits; reported = cond (eqb (given .kind) 17) (given .who) (m .reported) };
       reports = c .reports;
       count = c .count;
       rule = c .rule;
@@ -132,7 +155,7 @@ abbrev pub passed : Called → Called
 passed c =
     let m = c .machine in
     record {
-      machine = record { plan = m .plan; tick = record { 0 = m .tick .0 + 1 }; slots = m .slots; queue = m .queue; holds = m .holds; waits = m .waits; reported = m .reported };
+      machine = record { plan = m .plan; tick = record { 0 = m .tick .0 + 1 }; slots = m .slots; wakes = m .wakes; queue = m .queue; holds = m .holds; waits = m .waits; reported = m .reported };
       reports = c .reports;
       count = c .count;
       rule = c .rule;

@@ -4,14 +4,13 @@ use mathlib.Core.List.{List}
 use mathlib.Core.Option.{Option, none, some}
 use Prim.Native.Nat.{ℕ}
 use lib.Dec.{eqb}
-use lib.ListN.{getD}
-use Rattle.model.specs.Rules.{isDormant, holdsNone, holdsNot, lastTaken}
+use Rattle.model.specs.Rules.{holdsNone, holdsNot, lastTaken}
 use Rattle.plan.specs.View.{mayTakeIn}
-use Rattle.machine.specs.declared.holds.Holds.{Holds}
+use Rattle.lists.specs.declared.holds.Holds.{Holds}
+use Rattle.lists.specs.Words.{nibble}
+use Rattle.lists.specs.Lists.{numbered, held}
 use Rattle.machine.specs.declared.reports.Report.{Report}
-use Rattle.machine.specs.declared.slots.Slot.{Slot}
-use Rattle.machine.specs.Lists.{numbered, held}
-use Rattle.machine.specs.View.{conditionOf, noSlot}
+use Rattle.machine.specs.declared.slots.Slots.{Slots}
 
 -- a rule as a number: 0 if none is broken
 abbrev pub ruleNumber : Option ℕ → ℕ
@@ -24,8 +23,8 @@ runRule x = cond (eqb x 255) 22 0
 abbrev pub freeRule : Holds → (chosen : ℕ) → ℕ
 freeRule hs x = cond (eqb x 255) 22 (cond (holdsNone (held hs) x) 0 24)
 
-abbrev pub createRule : List Slot → (thread : ℕ) → ℕ
-createRule slots t = cond (isDormant (conditionOf (getD slots t noSlot))) 0 23
+abbrev pub createRule : Slots → (thread : ℕ) → ℕ
+createRule slots t = cond (eqb (nibble (slots .states) t) 0) 0 23
 
 abbrev pub takeRule : (threads : ℕ) (needs : List ℕ) → Holds → (chosen section : ℕ) → ℕ
 takeRule threads needs hs x s = cond (eqb x 255) 22 (cond (mayTakeIn threads needs x s) (cond (holdsNot (held hs) s x) 0 26) 25)

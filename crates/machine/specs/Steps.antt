@@ -17,7 +17,8 @@ use Rattle.machine.specs.declared.reports.Report as declared
 use Rattle.machine.specs.declared.rules.Record.{Record}
 use Rattle.machine.specs.declared.rules.Record.the-variants.{Create, Delay, Relinquish, End, Take, Give, Tick, Report}
 use Rattle.machine.specs.declared.state.State.{State}
-use Rattle.machine.specs.Lists.{numbered, threadOf, reportOf, owed}
+use Rattle.lists.specs.Lists.{numbered}
+use Rattle.machine.specs.Lists.{threadOf, reportOf, owed}
 use Rattle.machine.specs.View.{planOf, viewed, view}
 use Rattle.machine.specs.Contracts.{Ceilings, Chooses, reportsOf}
 

@@ -10,24 +10,25 @@ use Rattle.model.specs.State as state
 use Rattle.model.specs.State.{Condition, dormant, ready, asleep, waiting}
 use Rattle.model.specs.Records as records
 use Rattle.plan.specs.View as plans
-use Rattle.machine.specs.declared.slots.Slot.{Slot}
+use Rattle.lists.specs.Words.{nibble}
+use Rattle.lists.specs.Lists.{queued, held}
+use Rattle.machine.specs.declared.slots.Slots.{Slots}
 use Rattle.machine.specs.declared.Machine.{Machine}
 use Rattle.machine.specs.declared.state.State.{State}
-use Rattle.machine.specs.Lists.{threadOf, queued, held, owed}
+use Rattle.machine.specs.Lists.{threadOf, owed}
 
 -- a condition by its number: 0 dormant, 1 ready, 2 asleep until a tick number, 3 waiting for a section. Any other number stands for a wait
 -- for a section that no plan has, so that answer 12 is a question about the state alone.
-abbrev pub conditionOf : Slot → Condition
-conditionOf s =
-    cond (eqb (s .state) 0) dormant
-    (cond (eqb (s .state) 1) ready (cond (eqb (s .state) 2) (asleep (s .value)) (cond (eqb (s .state) 3) (waiting (s .value)) (waiting 255))))
+abbrev pub conditionOf : (state want wake : ℕ) → Condition
+conditionOf s n w = cond (eqb s 0) dormant (cond (eqb s 1) ready (cond (eqb s 2) (asleep w) (cond (eqb s 3) (waiting n) (waiting 255))))
 
-abbrev pub noSlot : Slot
-noSlot = record { state = 0; value = 0 }
+-- the condition of a thread
+abbrev pub conditionIn : Slots → (wakes : List ℕ) (thread : ℕ) → Condition
+conditionIn s wakes t = conditionOf (nibble (s .states) t) (nibble (s .wants) t) (getD wakes t 0)
 
 -- one for each thread
-abbrev pub conditionsOf : (threads : ℕ) → List Slot → List Condition
-conditionsOf threads slots = map (λ t. conditionOf (getD slots t noSlot)) (upTo threads)
+abbrev pub conditionsOf : (threads : ℕ) → Slots → (wakes : List ℕ) → List Condition
+conditionsOf threads s wakes = map (conditionIn s wakes) (upTo threads)
 
 abbrev pub planOf : Machine → plan.Plan
 planOf m = plans.view (m .plan)
@@ -37,7 +38,7 @@ abbrev pub viewed : Machine → List records.Report → state.State
 viewed m due =
     record {
       tickNumber = m .tick .0;
-      conditions = conditionsOf (m .plan .threads) (m .slots);
+      conditions = conditionsOf (m .plan .threads) (m .slots) (m .wakes);
       queue = queued (m .queue);
       holds = held (m .holds);
       waits = queued (m .waits);

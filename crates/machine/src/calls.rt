@@ -7,20 +7,21 @@ ghost use lib.Dec.{eqb, ltb};
 ghost use Rattle.model.specs.Records as records;
 ghost use Rattle.model.specs.Priorities.{chosen};
 ghost use Rattle.model.specs.Formed.{lastTick};
-ghost use Rattle.machine.specs.Lists.{numbered};
+ghost use Rattle.lists.specs.Lists.{numbered};
 ghost use Rattle.machine.specs.View.{planOf, idle, conditionsOf};
 ghost use Rattle.machine.specs.Contracts.{Starts, CreateAsked, Ticks, Asked, SectionAsked, Ceilings, Chooses, Makes, told, passed, soonest};
 use crate::Machine;
 use crate::choice;
-use crate::holds::Holds;
-use crate::queue::Queue;
 use crate::reports::Report;
 use crate::reports::Reports;
 use crate::rules;
 use crate::slots;
-use crate::slots::Slot;
+use crate::slots::Slots;
 use crate::time::Tick;
 use crate::time::Wait;
+use lists::holds::Holds;
+use lists::nibbles::nibble_at;
+use lists::queue::Queue;
 use plan::Plan;
 use plan::lookup::base;
 
@@ -74,11 +75,14 @@ impl Machine {
     pub fn start(plan: Plan) -> Machine
         ensures { λ r. ⌜ Starts r plan ⌝ }
     {
-        let z = Slot { state: 0, value: 0 };
         Machine {
             plan,
             tick: Tick(0),
-            slots: [z; 16],
+            slots: Slots {
+                states: 0,
+                wants: 0,
+            },
+            wakes: [0u32; 16],
             queue: Queue::none(),
             holds: Holds::none(),
             waits: Queue::none(),
@@ -96,12 +100,16 @@ impl Machine {
         let s = m.slots;
         let rule = rules::create_rule(s, thread);
         if rule == 0 {
-            let s2 = slots::placed(s, thread, 1, 0);
+            let s2 = s.placed(thread, 1);
             m.slots = s2;
             let q = m.queue;
             let q2 = q.push(thread);
             m.queue = q2;
-            rs = rs.push(16, thread);
+            rs.items[0] = Report {
+                kind: 16,
+                who: thread,
+            };
+            rs.count = 1;
         }
         let reports = rs.items;
         Called {
@@ -123,14 +131,15 @@ impl Machine {
         let now = m.tick;
         let number = now.next();
         let old = m.slots;
+        let wakes = m.wakes;
         let mut slots = m.slots;
         let mut queue = m.queue;
         let mut rs = Reports::none();
         let mut i: usize = 0;
         while i < n {
-            let s = old[i];
-            if slots::sleeps_until(s, number) {
-                slots[i] = Slot { state: 1, value: 0 };
+            let state = nibble_at(old.states, i as u8);
+            if slots::sleeps_until(state, wakes[i], number) {
+                slots = slots.placed(i as u8, 1);
                 queue = queue.push(i as u8);
                 rs = rs.push(16, i as u8);
             }
@@ -160,8 +169,10 @@ impl Machine {
             let now = m.tick;
             let until = now.after(wait);
             let s = m.slots;
-            let s2 = slots::placed(s, caller, 2, until.0);
+            let s2 = s.placed(caller, 2);
             m.slots = s2;
+            let k = caller as usize;
+            m.wakes[k] = until.0;
             let q = m.queue;
             let q2 = q.without(caller);
             m.queue = q2;
@@ -190,11 +201,15 @@ impl Machine {
             let q = m.queue;
             let h = m.holds;
             let w = m.waits;
-            if choice::rivalled_of(p.threads, b, ceilings, q, h, w, caller) {
+            if choice::rivalled_of(b, ceilings, q, h, w, caller) {
                 let q2 = q.without(caller);
                 let q3 = q2.push(caller);
                 m.queue = q3;
-                rs = rs.push(20, caller);
+                rs.items[0] = Report {
+                    kind: 20,
+                    who: caller,
+                };
+                rs.count = 1;
             }
         }
         let reports = rs.items;
@@ -216,7 +231,7 @@ impl Machine {
         let rule = rules::free_rule(h, caller);
         if rule == 0 {
             let s = m.slots;
-            let s2 = slots::placed(s, caller, 0, 0);
+            let s2 = s.placed(caller, 0);
             m.slots = s2;
             let q = m.queue;
             let q2 = q.without(caller);
@@ -249,18 +264,26 @@ impl Machine {
             if h.clear(ceilings, caller, b) {
                 let h2 = h.push(section, caller);
                 m.holds = h2;
-                rs = rs.push(18, caller);
+                rs.items[0] = Report {
+                    kind: 18,
+                    who: caller,
+                };
+                rs.count = 1;
             } else {
                 let q = m.queue;
                 let q2 = q.without(caller);
                 m.queue = q2;
                 let s = m.slots;
-                let s2 = slots::placed(s, caller, 3, section as u32);
+                let s2 = s.waits_for(caller, section);
                 m.slots = s2;
                 let w = m.waits;
                 let w2 = w.push(caller);
                 m.waits = w2;
-                rs = rs.push(19, caller);
+                rs.items[0] = Report {
+                    kind: 19,
+                    who: caller,
+                };
+                rs.count = 1;
             }
         }
         let reports = rs.items;
@@ -286,22 +309,24 @@ impl Machine {
         let rule = rules::give_rule(h, caller, section);
         if rule == 0 {
             let mut h2 = h.without(section, caller);
-            let heir = choice::find_heir(p.threads, bases, ceilings, w, h2);
+            let heir = choice::find_heir(bases, ceilings, w, h2);
             let t = heir.who;
             if heir.free {
                 let s = m.slots;
-                h2 = h2.push(slots::wanted(s, t), t);
+                h2 = h2.push(s.wanted(t), t);
                 let w2 = w.without(t);
                 m.waits = w2;
-                let s2 = slots::placed(s, t, 1, 0);
+                let s2 = s.placed(t, 1);
                 m.slots = s2;
                 let q = m.queue;
                 let q2 = q.push(t);
                 m.queue = q2;
-                rs = rs.push(18, t);
-                rs = rs.push(16, t);
+                rs.items[0] = Report { kind: 18, who: t };
+                rs.items[1] = Report { kind: 16, who: t };
+                rs.count = 2;
             } else if t != 255 {
-                rs = rs.push(19, t);
+                rs.items[0] = Report { kind: 19, who: t };
+                rs.count = 1;
             }
             m.holds = h2;
         }
@@ -324,20 +349,24 @@ impl Machine {
         let q = self.queue;
         let h = self.holds;
         let w = self.waits;
-        choice::chosen_of(p.threads, b, ceilings, q, h, w)
+        choice::chosen_of(b, ceilings, q, h, w)
     }
 
-    // The tick number up to which Ticks wake nobody, 0 where that is not known.
-    pub fn quiet_until(self, kind: u8) -> u32
+    // The tick number before which Ticks wake nobody, 0 where that is not known: found after a Tick, lost by a Delay, and kept by every other call,
+    // which puts nobody to sleep.
+    pub fn quiet_until(self, kind: u8, until: u32) -> u32
         requires { ⌜ self .plan .threads ≤ 16 ⌝ }
-        ensures { λ r. ⌜ r ≡ cond (eqb kind 7) (soonest (conditionsOf (self .plan .threads) (self .slots))) 0 ⌝ }
+        ensures { λ r. ⌜ r ≡ cond (eqb kind 7) (soonest (conditionsOf (self .plan .threads) (self .slots) (self .wakes))) (cond (eqb kind 2) 0 until) ⌝ }
     {
         let s = self.slots;
         let p = self.plan;
+        let wakes = self.wakes;
         if kind == 7 {
-            slots::soonest(s, p.threads)
-        } else {
+            s.soonest(wakes, p.threads)
+        } else if kind == 2 {
             0
+        } else {
+            until
         }
     }
 }

@@ -3,32 +3,36 @@ ghost use mathlib.Core.Path.{_≡_};
 ghost use mathlib.Core.Bool.{_&&_};
 ghost use Prim.Native.Nat.{_≤_};
 ghost use lib.Dec.{leb};
-ghost use lib.ListN.{getD};
 ghost use Rattle.model.specs.Searches.{all, upTo};
-ghost use Rattle.model.specs.Formed.{standsOnce, numbersInRange, formed};
-ghost use Rattle.machine.specs.Lists.{queued};
-ghost use Rattle.machine.specs.View.{conditionOf, noSlot, planOf, idle, view};
-ghost use Rattle.machine.specs.Contracts.{Counted};
+ghost use Rattle.model.specs.Formed.{numbersInRange, formed};
+ghost use Rattle.lists.specs.Words.{nibble};
+ghost use Rattle.lists.specs.Lists.{queued};
+ghost use Rattle.machine.specs.View.{planOf, idle, view};
+ghost use Rattle.machine.specs.Contracts.{Counted, standsBy};
 use crate::Machine;
-use crate::queue::Queue;
 use crate::slots;
-use crate::slots::Slot;
+use crate::slots::Slots;
 use crate::state::State;
 use crate::time::LAST_TICK;
+use lists::nibbles::nibble_at;
+use lists::nibbles::tally;
+use lists::queue::Queue;
 use plan::questions::passes;
 
 // Whether each thread stands once in the queue if it is ready, once in the waits if it waits, and nowhere else.
-fn stand_once(threads: usize, slots: [Slot; 16], queue: Queue, waits: Queue) -> bool
+fn stand_once(threads: usize, slots: Slots, queue: Queue, waits: Queue) -> bool
     requires { ⌜ (threads ≤ 16) × (queue .count ≤ 16) × (waits .count ≤ 16) ⌝ }
-    ensures { λ r. ⌜ r ≡ all (λ t. standsOnce (queued queue) (queued waits) (conditionOf (getD slots t noSlot)) t) (upTo threads) ⌝ }
+    ensures { λ r. ⌜ r ≡ all (λ t. standsBy (queued queue) (queued waits) (nibble (slots .states) t) t) (upTo threads) ⌝ }
 {
+    let lined = tally(queue.items, queue.count);
+    let waiting = tally(waits.items, waits.count);
     let mut t: usize = 0;
     while t < threads {
-        let s = slots[t];
-        if queue.times(t as u8) != slots::in_queue(s) {
+        let state = nibble_at(slots.states, t as u8);
+        if lined[t] != slots::in_queue(state) {
             return false;
         }
-        if waits.times(t as u8) != slots::in_waits(s) {
+        if waiting[t] != slots::in_waits(state) {
             return false;
         }
         t += 1;
@@ -51,7 +55,8 @@ fn numbers_in_range(m: Machine) -> bool
         return false;
     }
     let s = m.slots;
-    if !slots::in_range(s, p.threads, p.sections) {
+    let wakes = m.wakes;
+    if !s.in_range(wakes, p.threads, p.sections) {
         return false;
     }
     let q = m.queue;

@@ -1,7 +1,5 @@
 // The machine that says what a module's kernel does. It knows nothing of dumps.
 pub mod time; // time.rt: tick numbers and waits
-pub mod queue; // queue.rt: threads in order, the ready queue and the waits
-pub mod holds; // holds.rt: who holds which section
 pub mod reports; // reports.rt: the reports of a call
 pub mod slots; // slots.rt: the conditions of the threads
 pub mod choice; // choice.rt: owner, current priority, chosen thread, heir
@@ -10,18 +8,20 @@ pub mod state; // state.rt: a machine with the reports that it owes
 pub mod rules; // rules.rt: the questions asked of a record
 pub mod formed; // formed.rt: answer 12, of a state that came from outside
 
-use holds::Holds;
+use lists::holds::Holds;
+use lists::queue::Queue;
 use plan::Plan;
-use queue::Queue;
-use slots::Slot;
+use slots::Slots;
 use time::Tick;
 
-// Plain numbers only, since a state may be lent from outside. `reported` is the thread of the latest Switch given, 255 for nobody.
+// Plain numbers only, since a state may be lent from outside. `wakes` has the tick number that each sleeper waits for; `reported` is the
+// thread of the latest Switch given, 255 for nobody.
 #[repr(C)]
 pub struct Machine {
     pub plan: Plan,
     pub tick: Tick,
-    pub slots: [Slot; 16],
+    pub slots: Slots,
+    pub wakes: [u32; 16],
     pub queue: Queue,
     pub holds: Holds,
     pub waits: Queue,

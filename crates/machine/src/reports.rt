@@ -6,7 +6,7 @@ ghost use lib.ListN.{drop};
 ghost use Rattle.model.specs.Records.{report, allowed};
 ghost use Rattle.model.specs.Formed.{dueInRange};
 ghost use Rattle.plan.specs.View.{Fits, view};
-ghost use Rattle.machine.specs.Lists.{reportOf, owed};
+ghost use Rattle.machine.specs.Lists.{reportOf, noReports, owed};
 use plan::Plan;
 
 // A kind by document 01's number, 16 to 20, and the thread that it names, 255 for nobody.
@@ -37,7 +37,7 @@ fn is_report(entry: Report, plan: Plan) -> bool
 
 impl Reports {
     pub(crate) fn none() -> Reports
-        ensures { λ r. ⌜ owed r ≡ [] ⌝ }
+        ensures { λ r. ⌜ r ≡ noReports ⌝ }
     {
         let z = Report { kind: 0, who: 0 };
         Reports {

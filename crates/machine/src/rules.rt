@@ -2,11 +2,10 @@
 ghost use mathlib.Core.Path.{_≡_};
 ghost use Prim.Native.Nat.{_≤_, _<_};
 ghost use Rattle.machine.specs.Rules.{createRule, freeRule, takeRule, giveRule, runRule, reportRule};
-use crate::holds::Holds;
 use crate::reports::Report;
-use crate::slots;
-use crate::slots::Slot;
+use crate::slots::Slots;
 use crate::time::Wait;
+use lists::holds::Holds;
 use plan::lookup::may_take;
 
 // A record of a dump: a call with its operand, or a report.
@@ -40,15 +39,11 @@ pub(crate) fn free_rule(holds: Holds, chosen: u8) -> u8
 }
 
 // 23: is the thread dormant?
-pub(crate) fn create_rule(slots: [Slot; 16], thread: u8) -> u8
+pub(crate) fn create_rule(slots: Slots, thread: u8) -> u8
     requires { ⌜ thread < 16 ⌝ }
     ensures { λ r. ⌜ r ≡ createRule slots thread ⌝ }
 {
-    if slots::is_dormant(slots, thread) {
-        0
-    } else {
-        23
-    }
+    if slots.is_dormant(thread) { 0 } else { 23 }
 }
 
 // 22, 25 and 26: does the caller need the section, and not hold it?

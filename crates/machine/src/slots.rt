@@ -1,121 +1,131 @@
 // The conditions of the threads.
 ghost use mathlib.Core.Path.{_≡_};
+ghost use mathlib.Core.Bool.{cond, _&&_};
 ghost use Prim.Native.Nat.{_≤_, _<_};
-ghost use lib.ListN.{getD, set};
+ghost use lib.Dec.{eqb, leb};
 ghost use Rattle.model.specs.Searches.{all};
-ghost use Rattle.model.specs.Calls.{sleepsUntil, wanted};
-ghost use Rattle.model.specs.Rules.{isDormant};
-ghost use Rattle.model.specs.Formed.{conditionInRange, inQueue, inWaits};
-ghost use Rattle.machine.specs.View.{conditionOf, noSlot, conditionsOf};
-ghost use Rattle.machine.specs.Contracts.{soonest};
+ghost use Rattle.model.specs.Formed.{conditionInRange};
+ghost use Rattle.lists.specs.Words.{nibble};
+ghost use Rattle.machine.specs.View.{conditionOf, conditionsOf};
+ghost use Rattle.machine.specs.Contracts.{placed, waitsFor, soonest};
 use crate::time::LAST_WAKE;
 use crate::time::Tick;
+use lists::nibbles::nibble_at;
+use lists::nibbles::with_nibble;
 
-// A condition by its number: 0 dormant, 1 ready, 2 asleep until a tick number, 3 waiting for a section.
+// A condition for each thread by its number, in four bits: 0 dormant, 1 ready, 2 asleep until a tick number, 3 waiting for a section; and in
+// `wants` that section. The tick numbers stand beside it, so that a call that puts nobody to sleep copies none.
 #[repr(C)]
-pub struct Slot {
-    pub state: u8,
-    pub value: u32,
+pub struct Slots {
+    pub states: u64,
+    pub wants: u64,
 }
 
-// A thread comes into a condition.
-pub(crate) fn placed(slots: [Slot; 16], thread: u8, state: u8, value: u32) -> [Slot; 16]
-    requires { ⌜ thread < 16 ⌝ }
-    ensures { λ r. ⌜ r ≡ set slots thread (record { state = state; value = value }) ⌝ }
-{
-    let mut s = slots;
-    let t = thread as usize;
-    s[t] = Slot { state, value };
-    s
-}
+impl Slots {
+    // A thread comes into another condition.
+    pub(crate) fn placed(self, thread: u8, state: u8) -> Slots
+        requires { ⌜ (thread < 16) × (state < 16) ⌝ }
+        ensures { λ r. ⌜ r ≡ placed self thread state ⌝ }
+    {
+        let states = with_nibble(self.states, thread, state);
+        Slots {
+            states,
+            wants: self.wants,
+        }
+    }
 
-pub(crate) fn is_dormant(slots: [Slot; 16], thread: u8) -> bool
-    requires { ⌜ thread < 16 ⌝ }
-    ensures { λ r. ⌜ r ≡ isDormant (conditionOf (getD slots thread noSlot)) ⌝ }
-{
-    let t = thread as usize;
-    let s = slots[t];
-    s.state == 0
+    // A thread waits for a section.
+    pub(crate) fn waits_for(self, thread: u8, section: u8) -> Slots
+        requires { ⌜ (thread < 16) × (section < 16) ⌝ }
+        ensures { λ r. ⌜ r ≡ waitsFor self thread section ⌝ }
+    {
+        let states = with_nibble(self.states, thread, 3);
+        let wants = with_nibble(self.wants, thread, section);
+        Slots { states, wants }
+    }
+
+    pub(crate) fn is_dormant(self, thread: u8) -> bool
+        requires { ⌜ thread < 16 ⌝ }
+        ensures { λ r. ⌜ r ≡ eqb (nibble (self .states) thread) 0 ⌝ }
+    {
+        nibble_at(self.states, thread) == 0
+    }
+
+    // The section that a waiting thread wants.
+    pub(crate) fn wanted(self, thread: u8) -> u8
+        requires { ⌜ thread < 16 ⌝ }
+        ensures { λ r. ⌜ r ≡ nibble (self .wants) thread ⌝ }
+    {
+        nibble_at(self.wants, thread)
+    }
+
+    // Whether each names a condition, and its tick number or section is in range.
+    pub(crate) fn in_range(self, wakes: [u32; 16], threads: usize, sections: usize) -> bool
+        requires { ⌜ (threads ≤ 16) × (sections ≤ 16) ⌝ }
+        ensures { λ r. ⌜ r ≡ all (conditionInRange sections) (conditionsOf threads self wakes) ⌝ }
+    {
+        let mut t: usize = 0;
+        while t < threads {
+            let state = nibble_at(self.states, t as u8);
+            let want = nibble_at(self.wants, t as u8);
+            if !slot_in_range(state, want, wakes[t], sections) {
+                return false;
+            }
+            t += 1;
+        }
+        true
+    }
+
+    // The least tick number that a sleeper waits for, LAST_WAKE where nobody sleeps before it.
+    pub(crate) fn soonest(self, wakes: [u32; 16], threads: usize) -> u32
+        requires { ⌜ threads ≤ 16 ⌝ }
+        ensures { λ r. ⌜ r ≡ soonest (conditionsOf threads self wakes) ⌝ }
+    {
+        let mut first: u32 = LAST_WAKE;
+        let mut t: usize = 0;
+        while t < threads {
+            let state = nibble_at(self.states, t as u8);
+            let wake = wakes[t];
+            if state == 2 && wake < first {
+                first = wake;
+            }
+            t += 1;
+        }
+        first
+    }
 }
 
 // Whether a thread in this condition sleeps until this tick number.
-pub(crate) fn sleeps_until(slot: Slot, number: Tick) -> bool
-    ensures { λ r. ⌜ r ≡ sleepsUntil (number .0) (conditionOf slot) ⌝ }
+pub(crate) fn sleeps_until(state: u8, wake: u32, number: Tick) -> bool
+    ensures { λ r. ⌜ r ≡ eqb state 2 && eqb wake (number .0) ⌝ }
 {
-    slot.state == 2 && slot.value == number.0
-}
-
-// The section that a waiting thread wanted.
-pub(crate) fn wanted(slots: [Slot; 16], thread: u8) -> u8
-    requires { ⌜ (thread < 16) × (wanted (conditionOf (getD slots thread noSlot)) < 16) ⌝ }
-    ensures { λ r. ⌜ r ≡ wanted (conditionOf (getD slots thread noSlot)) ⌝ }
-{
-    let t = thread as usize;
-    let s = slots[t];
-    if s.state == 3 {
-        (s.value % 256) as u8
-    } else {
-        0
-    }
+    state == 2 && wake == number.0
 }
 
 // How often a thread in this condition stands in the queue.
-pub(crate) fn in_queue(slot: Slot) -> usize
-    ensures { λ r. ⌜ r ≡ inQueue (conditionOf slot) ⌝ }
+pub(crate) fn in_queue(state: u8) -> u8
+    ensures { λ r. ⌜ r ≡ cond (eqb state 1) 1 0 ⌝ }
 {
-    if slot.state == 1 { 1 } else { 0 }
+    if state == 1 { 1 } else { 0 }
 }
 
 // And in the waits.
-pub(crate) fn in_waits(slot: Slot) -> usize
-    ensures { λ r. ⌜ r ≡ inWaits (conditionOf slot) ⌝ }
+pub(crate) fn in_waits(state: u8) -> u8
+    ensures { λ r. ⌜ r ≡ cond (leb 3 state) 1 0 ⌝ }
 {
-    if 3 <= slot.state { 1 } else { 0 }
+    if 3 <= state { 1 } else { 0 }
 }
 
 // Whether the number names a condition, and its tick number or section is in range.
-fn slot_in_range(slot: Slot, sections: usize) -> bool
+fn slot_in_range(state: u8, want: u8, wake: u32, sections: usize) -> bool
     requires { ⌜ sections ≤ 16 ⌝ }
-    ensures { λ r. ⌜ r ≡ conditionInRange sections (conditionOf slot) ⌝ }
+    ensures { λ r. ⌜ r ≡ conditionInRange sections (conditionOf state want wake) ⌝ }
 {
-    let v = slot.value;
-    if slot.state == 2 {
-        v <= LAST_WAKE
-    } else if slot.state == 3 {
-        (v as usize) < sections
+    if state == 2 {
+        wake <= LAST_WAKE
+    } else if state == 3 {
+        (want as usize) < sections
     } else {
-        slot.state < 2
+        state < 2
     }
-}
-
-pub(crate) fn in_range(slots: [Slot; 16], threads: usize, sections: usize) -> bool
-    requires { ⌜ (threads ≤ 16) × (sections ≤ 16) ⌝ }
-    ensures { λ r. ⌜ r ≡ all (conditionInRange sections) (conditionsOf threads slots) ⌝ }
-{
-    let mut t: usize = 0;
-    while t < threads {
-        let s = slots[t];
-        if !slot_in_range(s, sections) {
-            return false;
-        }
-        t += 1;
-    }
-    true
-}
-
-// The least tick number that a sleeper waits for, LAST_WAKE where nobody sleeps before it.
-pub(crate) fn soonest(slots: [Slot; 16], threads: usize) -> u32
-    requires { ⌜ threads ≤ 16 ⌝ }
-    ensures { λ r. ⌜ r ≡ soonest (conditionsOf threads slots) ⌝ }
-{
-    let mut first: u32 = LAST_WAKE;
-    let mut t: usize = 0;
-    while t < threads {
-        let s = slots[t];
-        if s.state == 2 && s.value < first {
-            first = s.value;
-        }
-        t += 1;
-    }
-    first
 }

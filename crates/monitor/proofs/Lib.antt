@@ -2,6 +2,7 @@
 pub mod Walking
 pub mod Checking
 pub mod Turns
+pub mod Hearing
 pub mod Singles
 pub mod Lending
 pub mod Passed

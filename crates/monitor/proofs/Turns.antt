@@ -1,12 +1,12 @@
 -- One turn of a walk: what a record answers where something is due, and what the call that was made answers where nothing is.
-use mathlib.Core.Path.{_≡_, ap, sym, subst, _∙_}
+use mathlib.Core.Path.{_≡_, refl, ap, sym, subst, _∙_}
 use mathlib.Core.Logic.{_⊎_, inl, inr, _≢_}
-use mathlib.Core.Bool.{cond, not}
+use mathlib.Core.Bool.{Bool, true, false, cond, not, true≢false}
 use mathlib.Core.List.{List}
 use Prim.Native.Nat.{ℕ, _+_, _%_, _≤_, _<_}
 use native.Mathlib.Omega.{arith}
-use borrow.Author.Tests.{lt-ltb, le-ltb}
-use lib.Dec.{T, ltb, ltb→lt, nltb→le}
+use borrow.Author.Tests.{lt-ltb, le-ltb, ne-eqb}
+use lib.Dec.{T, eqb, ltb, ltb→lt, nltb→le}
 use lib.ListN.{length, getD, set}
 use Rattle.model.specs.Records as records
 use Rattle.model.specs.Records.{Call, call, report}
@@ -18,7 +18,7 @@ use Rattle.machine.specs.View.{planOf, idle}
 use Rattle.machine.specs.Rules.{reportRule}
 use Rattle.machine.specs.Contracts.{Makes}
 use Rattle.machine.specs.Steps.{Steps, Settles, stateOf, Answers}
-use Rattle.machine.proofs.Laws.{Told, call-due, report-breaks, report-given, report-undue, call-breaks, call-settles, call-unswitched, call-switched}
+use Rattle.machine.proofs.Laws.{Told, Quiet, call-quiet, call-due, report-breaks, report-given, report-undue, call-breaks, call-settles, call-unswitched, call-switched}
 use Rattle.dump.specs.Layout.{recordOf}
 use Rattle.dump.specs.Questions.{operandFits}
 use Rattle.dump.proofs.Laws.{report-reads, call-reads}
@@ -54,6 +54,33 @@ module _ (old : Called) (given : ℕ) {ceilings : List ℕ} {who : ℕ} {r : rec
         go (inl b) = absurd (omega (arith, z, of-call b))
         go (inr b) = let k = report-reads kind operand fits b in report-given old given steps h _ (k .kind') (sym is ∙ sym (k .same)) (of-report b) z x t
 
+-- only kind 2 is read as a Delay
+
+abbrev isDelay : records.Record → Bool
+isDelay (report g) = false
+isDelay (call (records.Create t)) = false
+isDelay (call (records.Delay n)) = true
+isDelay (call records.Relinquish) = false
+isDelay (call records.End) = false
+isDelay (call (records.Take s)) = false
+isDelay (call (records.Give s)) = false
+isDelay (call records.Tick) = false
+
+neither : (b : Bool) (r s : records.Record) → isDelay r ≡ false → isDelay s ≡ false → isDelay (cond b r s) ≡ false
+neither true r s e q = e
+neither false r s e q = q
+
+no-delay : (kind operand : ℕ) → kind ≢ 2 → isDelay (recordOf kind operand) ≡ false
+no-delay k n d =
+    rw (ne-eqb k 2 d)
+    (neither (eqb k 1) _ _ refl
+    (neither (eqb k 3) _ _ refl
+    (neither (eqb k 4) _ _ refl
+    (neither (eqb k 5) _ _ refl
+    (neither (eqb k 6) _ _ refl
+    (neither (eqb k 7) _ _ refl
+    (neither (eqb k 16) _ _ refl (neither (eqb k 17) _ _ refl (neither (eqb k 18) _ _ refl (neither (eqb k 19) _ _ refl refl))))))))))
+
 -- what the arms leave: a call with what its method handed back, or a report, which breaks 28
 pub record Made (x old : Called) (r : records.Record) : Type 0 where
   pub size : length (x .reports) ≡ 17
@@ -83,6 +110,10 @@ module _ (old : Called) (given : ℕ) {ceilings : List ℕ} {who : ℕ} {r : rec
 
     pub turn-settles : Settles x ceilings
     turn-settles = let c = admitted in call-settles old given steps none-due (c .0) (c .1) x (c .2) z
+
+    -- unless it is a Delay, nobody wakes earlier than before it
+    pub turn-quiet : (kind operand until : ℕ) → recordOf kind operand ≡ r → kind ≢ 2 → Quiet (old .machine .plan .threads) (old .machine .slots) (old .machine .wakes) until → Quiet (x .machine .plan .threads) (x .machine .slots) (x .machine .wakes) until
+    turn-quiet kind operand until e d q = let c = admitted in call-quiet (c .2) z (λ n k. true≢false (sym (ap isDelay (e ∙ c .1 ∙ ap call k)) ∙ no-delay kind operand d)) q
 
     module _ {who' : ℕ} (is : who' ≡ numbered (chosen (planOf (x .machine)) (idle (x .machine)))) where
       pub turn-unswitched : who' ≡ x .machine .reported → Answers (stateOf x 0) who' 0 (stateOf old given) r

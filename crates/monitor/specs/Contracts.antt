@@ -2,10 +2,11 @@
 use mathlib.Core.Path.{_≡_}
 use mathlib.Core.Logic.{_⊎_}
 use mathlib.Core.Bool.{false, cond}
-use mathlib.Core.List.{List, [], _∷_}
+use mathlib.Core.List.{List, [], _∷_, map}
 use Prim.Native.Nat.{ℕ, _+_, _%_, _≤_, _<_}
 use lib.Dec.{T, eqb, ltb}
 use lib.ListN.{length}
+use Rattle.model.specs.Searches.{upTo}
 use Rattle.model.specs.Plan as model
 use Rattle.model.specs.Records as records
 use Rattle.model.specs.State as state
@@ -21,10 +22,11 @@ use Rattle.machine.specs.View.{planOf, view}
 use Rattle.machine.specs.declared.reports.Report.{Report}
 use Rattle.machine.specs.Rules.{reportRule}
 use Rattle.machine.specs.Contracts.{Ceilings}
-use Rattle.machine.specs.Steps.{Steps}
+use Rattle.machine.specs.Steps.{Steps, Answers}
 use Rattle.dump.specs.Layout.{recordCount, kindAt, recordOf, decode}
 use Rattle.dump.specs.Questions.{kindAllowed, operandFits, Whole, hasKinds, hasOperands}
 use Rattle.monitor.specs.declared.walk.Walked.{Walked}
+use Rattle.monitor.specs.declared.heard.Judged.{Judged}
 use Rattle.monitor.specs.declared.live.Watch.{Watch}
 use Rattle.monitor.specs.declared.live.Begun.{Begun}
 use Rattle.monitor.specs.declared.live.Reply as replies
@@ -76,6 +78,14 @@ pub record Single (s : State) (ceilings : List ℕ) (who kind operand : ℕ) : T
   pub kind' : T (kindAllowed false kind)
   pub operand' : T (operandFits (s .machine .plan .threads) (s .machine .plan .sections) kind operand)
   pub steps : Steps s ceilings who (recordOf kind operand)
+
+-- the same, of a state with the ceilings of its plan and its chosen thread
+abbrev pub Asked : State → (kind operand : ℕ) → Type 0
+Asked s k n = Single s (map (model.ceiling (planOf (s .machine))) (upTo 16)) (numbered (chosen (planOf (s .machine)) (view s))) k n
+
+-- what is answered of a record, as a step does: the state after it and the broken rule, 0 if there is none
+abbrev pub Judges : Judged → State → records.Record → Type 0
+Judges r s x = Answers (r .state) (numbered (chosen (planOf (s .machine)) (view (r .state)))) (r .rule) s x
 
 -- the watch state that a struct stands for
 abbrev pub seen : Watch → Watched

@@ -1,8 +1,11 @@
 // The watch state and the live step: one record at a time, on a state that is lent.
 ghost use mathlib.Core.Path.{_≡_};
 ghost use Rattle.plan.specs.Bytes.{number};
+ghost use Rattle.dump.specs.Layout.{recordOf};
 ghost use Rattle.monitor.specs.Watching.{isRule, refusal};
-ghost use Rattle.monitor.specs.Contracts.{seen, Begins, Tells};
+ghost use Rattle.monitor.specs.Contracts.{Asked, Judges, seen, Begins, Tells};
+use crate::heard::Judged;
+use crate::heard::hear;
 use crate::single::step;
 use dump::layout::Entry;
 use dump::questions::kind_allowed;
@@ -92,6 +95,26 @@ fn refused(watch: Watch, kind: u8, operand: u16) -> u8
     0
 }
 
+// One record that passed 12, 7, 8 and 13: a report by what is due, a call by a walk.
+fn judged(state: State, kind: u8, operand: u16) -> Judged
+    requires { ⌜ Asked state kind operand ⌝ }
+    ensures { λ r. ⌜ Judges r state (recordOf kind operand) ⌝ }
+{
+    if 16 <= kind {
+        return hear(state, Entry { kind, operand });
+    }
+    let m = state.machine;
+    let p = m.plan;
+    let all = ceilings(p);
+    let who = m.chosen(&all);
+    let o = step(state, &all, who, Entry { kind, operand });
+    let after = o.state;
+    Judged {
+        state: after,
+        rule: o.rule,
+    }
+}
+
 // One record, on any lent state: the answer, and the state after it. Rules out a step that leaves the state alone, one that judges anew after
 // a breach, and a breach that moves the machine.
 pub fn live(watch: Watch, kind: u8, operand: u16) -> Told
@@ -111,11 +134,7 @@ pub fn live(watch: Watch, kind: u8, operand: u16) -> Told
         };
     }
     let s = watch.state;
-    let m = s.machine;
-    let p = m.plan;
-    let all = ceilings(p);
-    let who = m.chosen(&all);
-    let o = step(s, &all, who, Entry { kind, operand });
+    let o = judged(s, kind, operand);
     if o.rule != 0 {
         return Told {
             watch: Watch {

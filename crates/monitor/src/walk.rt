@@ -21,7 +21,7 @@ pub struct Walked {
 }
 
 // 21, 29 and 30, of a record where this report is due first.
-fn due_rule(first: Report, entry: Entry) -> u8
+pub(crate) fn due_rule(first: Report, entry: Entry) -> u8
     ensures { λ r. ⌜ r ≡ dueRule first (entry .kind) (entry .operand) ⌝ }
 {
     let kind = entry.kind;
@@ -75,7 +75,7 @@ pub(crate) fn walk(state: State, ceilings: &[u8; 16], chosen: u8, bytes: &[u8], 
                 break;
             }
             let after = c.machine;
-            quiet = after.quiet_until(e.kind);
+            quiet = after.quiet_until(e.kind, quiet);
             who = after.chosen(ceilings);
             given = 0;
             if who != after.reported {

@@ -4,9 +4,10 @@
 //! and rules, and the bytes of plans, dumps and call lists, are those of `interface/beltcairn.h`.
 #![warn(missing_docs)]
 
+pub mod packed;
 mod watch;
 
-pub use watch::{Hold, Holds, Machine, Plan, Queue, Report, Reports, Slot, State, Watch};
+pub use watch::{Holds, Machine, Plan, Queue, Report, Reports, Slots, State, Watch};
 
 extern "C" {
     fn beltcairn_check(plan: *const u8, plan_len: usize, dump: *const u8, dump_len: usize, at: *mut u64, due: *mut u64) -> u8;

@@ -14,43 +14,35 @@ pub struct Plan {
     pub needs: [u16; 16],
 }
 
-/// The condition of a thread.
+/// The conditions of the threads, as words (see [`packed`](crate::packed)).
 #[repr(C)]
 #[derive(Clone, Copy, Debug, PartialEq, Eq)]
-pub struct Slot {
-    /// 0 dormant, 1 ready, 2 asleep until a tick number, 3 waiting for a section.
-    pub state: u8,
-    /// That tick number or section; 0 where there is none.
-    pub value: u32,
+pub struct Slots {
+    /// For each thread 0 dormant, 1 ready, 2 asleep, 3 waiting; the first T are in use.
+    pub states: u64,
+    /// For each thread that waits the section that it waits for; the others mean nothing.
+    pub wants: u64,
 }
 
-/// Threads in order.
+/// Threads in order, as a word (see [`packed`](crate::packed)).
 #[repr(C)]
 #[derive(Clone, Copy, Debug, PartialEq, Eq)]
 pub struct Queue {
-    /// The first `count` are in use.
-    pub items: [u8; 16],
-    /// How many there are.
+    /// The first `count` are in use, the others mean nothing.
+    pub items: u64,
+    /// How many there are, at most 16.
     pub count: usize,
 }
 
-/// A section and the thread that holds it.
-#[repr(C)]
-#[derive(Clone, Copy, Debug, PartialEq, Eq)]
-pub struct Hold {
-    /// The section.
-    pub section: u8,
-    /// The thread.
-    pub thread: u8,
-}
-
-/// The holds in order of taking.
+/// Sections and the threads that hold them, the latest taken first, as words (see [`packed`](crate::packed)).
 #[repr(C)]
 #[derive(Clone, Copy, Debug, PartialEq, Eq)]
 pub struct Holds {
-    /// The first `count` are in use.
-    pub items: [Hold; 16],
-    /// How many there are.
+    /// The sections; the first `count` are in use, the others mean nothing.
+    pub sections: u64,
+    /// The threads that hold them, in the same order.
+    pub threads: u64,
+    /// How many there are, at most 16.
     pub count: usize,
 }
 
@@ -82,8 +74,10 @@ pub struct Machine {
     pub plan: Plan,
     /// The tick number: Tick records so far.
     pub tick: u32,
-    /// The condition of each thread, the first T in use.
-    pub slots: [Slot; 16],
+    /// The condition of each thread.
+    pub slots: Slots,
+    /// The tick number that each sleeper waits for; those of threads not asleep mean nothing.
+    pub wakes: [u32; 16],
     /// The line: the ready threads in order of arrival.
     pub queue: Queue,
     /// Who holds which section.
@@ -118,7 +112,7 @@ pub struct Watch {
 
 /// All zeroes, to be written over.
 pub(crate) fn blank() -> Watch {
-    let queue = Queue { items: [0; 16], count: 0 };
+    let queue = Queue { items: 0, count: 0 };
     let machine = Machine {
         plan: Plan {
             threads: 0,
@@ -127,10 +121,12 @@ pub(crate) fn blank() -> Watch {
             needs: [0; 16],
         },
         tick: 0,
-        slots: [Slot { state: 0, value: 0 }; 16],
+        slots: Slots { states: 0, wants: 0 },
+        wakes: [0; 16],
         queue,
         holds: Holds {
-            items: [Hold { section: 0, thread: 0 }; 16],
+            sections: 0,
+            threads: 0,
             count: 0,
         },
         waits: queue,

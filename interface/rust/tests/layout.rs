@@ -1,20 +1,15 @@
 //! The layout of the watch state: the sizes and offsets that interface/beltcairn.h states, what the library writes, and what it reads.
 mod known;
 
-use beltcairn::{Hold, Holds, Machine, Plan, Queue, Reply, Report, Reports, Slot, State, Watch};
-use known::{run_a, DELAY, GIVE, NOBODY, PLAN_A, READY, RELINQUISH, SWITCH, TAKE, TICK, WON};
+use beltcairn::packed::{numbers, word};
+use beltcairn::{Holds, Machine, Plan, Queue, Reply, Report, Reports, Slots, State, Watch};
+use known::{run_a, CREATE, DELAY, END, GIVE, NOBODY, PLAN_A, READY, RELINQUISH, SWITCH, TAKE, TICK, WON};
 use std::mem::{align_of, offset_of, size_of};
 
 #[test]
 fn sizes() {
-    let parts = [
-        size_of::<Plan>(),
-        size_of::<Slot>(),
-        size_of::<Queue>(),
-        size_of::<Hold>(),
-        size_of::<Holds>(),
-    ];
-    assert_eq!(parts, [64, 8, 24, 2, 40]);
+    let parts = [size_of::<Plan>(), size_of::<Slots>(), size_of::<Queue>(), size_of::<Holds>()];
+    assert_eq!(parts, [64, 16, 16, 24]);
     let wholes = [
         size_of::<Report>(),
         size_of::<Reports>(),
@@ -22,21 +17,22 @@ fn sizes() {
         size_of::<State>(),
         size_of::<Watch>(),
     ];
-    assert_eq!(wholes, [2, 48, 296, 352, 360]);
+    assert_eq!(wholes, [2, 48, 216, 272, 280]);
 }
 
 #[test]
 fn alignments() {
     let eight = [
         align_of::<Plan>(),
+        align_of::<Slots>(),
         align_of::<Queue>(),
         align_of::<Holds>(),
         align_of::<Reports>(),
         align_of::<Machine>(),
     ];
-    assert_eq!(eight, [8; 5]);
+    assert_eq!(eight, [8; 6]);
     assert_eq!([align_of::<State>(), align_of::<Watch>()], [8; 2]);
-    assert_eq!([align_of::<Slot>(), align_of::<Hold>(), align_of::<Report>()], [4, 1, 1]);
+    assert_eq!(align_of::<Report>(), 1);
 }
 
 #[test]
@@ -50,36 +46,45 @@ fn offsets() {
         ],
         [0, 8, 16, 32]
     );
-    assert_eq!([offset_of!(Slot, state), offset_of!(Slot, value)], [0, 4]);
-    assert_eq!([offset_of!(Queue, items), offset_of!(Queue, count)], [0, 16]);
-    assert_eq!([offset_of!(Hold, section), offset_of!(Hold, thread)], [0, 1]);
-    assert_eq!([offset_of!(Holds, items), offset_of!(Holds, count)], [0, 32]);
+    assert_eq!([offset_of!(Slots, states), offset_of!(Slots, wants)], [0, 8]);
+    assert_eq!([offset_of!(Queue, items), offset_of!(Queue, count)], [0, 8]);
+    assert_eq!(
+        [offset_of!(Holds, sections), offset_of!(Holds, threads), offset_of!(Holds, count)],
+        [0, 8, 16]
+    );
     assert_eq!([offset_of!(Report, kind), offset_of!(Report, who)], [0, 1]);
     assert_eq!([offset_of!(Reports, items), offset_of!(Reports, count)], [0, 40]);
-    assert_eq!(
-        [offset_of!(Machine, plan), offset_of!(Machine, tick), offset_of!(Machine, slots)],
-        [0, 64, 68]
-    );
+    assert_eq!([offset_of!(Machine, plan), offset_of!(Machine, tick)], [0, 64]);
+    assert_eq!([offset_of!(Machine, slots), offset_of!(Machine, wakes)], [72, 88]);
     assert_eq!(
         [offset_of!(Machine, queue), offset_of!(Machine, holds), offset_of!(Machine, waits)],
-        [200, 224, 264]
+        [152, 168, 192]
     );
     assert_eq!(
         [offset_of!(Machine, reported), offset_of!(State, machine), offset_of!(State, due)],
-        [288, 0, 296]
+        [208, 0, 216]
     );
     assert_eq!(
         [offset_of!(State, given), offset_of!(Watch, state), offset_of!(Watch, rule)],
-        [344, 0, 352]
+        [264, 0, 272]
     );
 }
 
-fn listed(queue: &Queue) -> &[u8] {
-    &queue.items[..queue.count]
+#[test]
+fn the_first_number_of_a_word_is_the_lowest() {
+    let rising = [0, 1, 2, 3, 4, 5, 6, 7, 8, 9, 10, 11, 12, 13, 14, 15];
+    assert_eq!((word(rising), numbers(0xfedc_ba98_7654_3210)), (0xfedc_ba98_7654_3210, rising));
+    assert_eq!(word([0xf1; 16]), 0x1111_1111_1111_1111);
 }
 
+fn listed(queue: &Queue) -> Vec<u8> {
+    numbers(queue.items)[..queue.count].to_vec()
+}
+
+/// Section and thread of each hold, the latest first.
 fn held(holds: &Holds) -> Vec<(u8, u8)> {
-    holds.items[..holds.count].iter().map(|h| (h.section, h.thread)).collect()
+    let pairs = numbers(holds.sections).into_iter().zip(numbers(holds.threads));
+    pairs.take(holds.count).collect()
 }
 
 fn owed(state: &State) -> Vec<(u8, u8)> {
@@ -89,8 +94,15 @@ fn owed(state: &State) -> Vec<(u8, u8)> {
         .collect()
 }
 
+/// The condition of each thread, with the tick number or section that belongs to it and 0 where there is none.
 fn conditions(m: &Machine) -> Vec<(u8, u32)> {
-    m.slots[..m.plan.threads].iter().map(|s| (s.state, s.value)).collect()
+    let (states, wants) = (numbers(m.slots.states), numbers(m.slots.wants));
+    let value = |thread: usize| match states[thread] {
+        2 => m.wakes[thread],
+        3 => wants[thread].into(),
+        _ => 0,
+    };
+    (0..m.plan.threads).map(|thread| (states[thread], value(thread))).collect()
 }
 
 fn steps(watch: &mut Watch, records: &[(u8, u16)]) {
@@ -100,12 +112,16 @@ fn steps(watch: &mut Watch, records: &[(u8, u16)]) {
 }
 
 /// 16 threads and 16 sections: thread i has priority i + 1 and needs section i.
-#[test]
-fn largest_plan() {
+fn largest() -> Watch {
     let mut plan = vec![16, 16];
     plan.extend(1..=16);
     plan.extend((0..16).flat_map(|i| (1u16 << i).to_le_bytes()));
-    let watch = Watch::begin(&plan).unwrap();
+    Watch::begin(&plan).unwrap()
+}
+
+#[test]
+fn largest_plan() {
+    let watch = largest();
     let m = &watch.state.machine;
     assert_eq!((m.plan.threads, m.plan.sections), (16, 16));
     assert_eq!(m.plan.bases, [1, 2, 3, 4, 5, 6, 7, 8, 9, 10, 11, 12, 13, 14, 15, 16]);
@@ -116,6 +132,40 @@ fn largest_plan() {
     assert_eq!((watch.state.due.count, watch.state.given, watch.rule), (0, 0, 0));
 }
 
+/// Sixteen threads start, each more urgent than those before it: every entry of the line is in use.
+#[test]
+fn all_threads_in_the_line() {
+    let mut watch = largest();
+    for thread in 0..16 {
+        steps(&mut watch, &[(CREATE, thread), (READY, thread), (SWITCH, thread)]);
+    }
+    let m = &watch.state.machine;
+    assert_eq!((m.queue.items, m.queue.count), (0xfedc_ba98_7654_3210, 16));
+    assert_eq!(m.slots.states, 0x1111_1111_1111_1111);
+    steps(&mut watch, &[(END, 0)]);
+    let m = &watch.state.machine;
+    assert_eq!((m.queue.items << 4, m.queue.count), (0xedcb_a987_6543_2100, 15));
+    assert_eq!(m.slots.states, 0x0111_1111_1111_1111);
+}
+
+/// One thread takes sixteen sections: every entry of the holds is in use, the latest first.
+#[test]
+fn all_sections_held() {
+    let mut watch = Watch::begin(&[1, 16, 1, 0xff, 0xff]).unwrap();
+    steps(&mut watch, &[(CREATE, 0), (READY, 0), (SWITCH, 0)]);
+    for section in 0..16 {
+        steps(&mut watch, &[(TAKE, section), (WON, 0)]);
+    }
+    let holds = &watch.state.machine.holds;
+    assert_eq!((holds.sections, holds.threads, holds.count), (0x0123_4567_89ab_cdef, 0, 16));
+    steps(&mut watch, &[(GIVE, 15)]);
+    let holds = &watch.state.machine.holds;
+    assert_eq!(
+        (holds.sections << 4, holds.threads << 4, holds.count),
+        (0x0123_4567_89ab_cde0, 0, 15)
+    );
+}
+
 /// Up to its first Lost thread 2 waits for the section that thread 0 holds; at the end it has been handed it.
 #[test]
 fn states_of_run_a() {
@@ -124,7 +174,7 @@ fn states_of_run_a() {
     let m = &watch.state.machine;
     assert_eq!(
         (listed(&m.queue), listed(&m.waits), held(&m.holds)),
-        (&[0][..], &[2][..], vec![(0, 0)])
+        (vec![0], vec![2], vec![(0, 0)])
     );
     assert_eq!((conditions(m), m.reported, m.tick), (vec![(1, 0), (0, 0), (3, 0)], 2, 0));
     assert_eq!(owed(&watch.state), [(SWITCH, 0)]);
@@ -137,7 +187,7 @@ fn states_of_run_a() {
     let m = &watch.state.machine;
     assert_eq!(
         (listed(&m.queue), listed(&m.waits), held(&m.holds)),
-        (&[0, 1, 2][..], &[][..], vec![(0, 2)])
+        (vec![0, 1, 2], vec![], vec![(0, 2)])
     );
     assert_eq!((conditions(m), m.reported, watch.rule), (vec![(1, 0); 3], 2, 0));
     assert_eq!(owed(&watch.state), []);
@@ -151,7 +201,7 @@ fn states_of_one_thread() {
         &mut watch,
         &[(1, 0), (READY, 0), (SWITCH, 0), (TAKE, 0), (WON, 0), (TAKE, 1), (WON, 0)],
     );
-    assert_eq!(held(&watch.state.machine.holds), [(0, 0), (1, 0)]);
+    assert_eq!(held(&watch.state.machine.holds), [(1, 0), (0, 0)]);
     steps(&mut watch, &[(GIVE, 1), (GIVE, 0), (DELAY, 300)]);
     assert_eq!(
         (conditions(&watch.state.machine), owed(&watch.state)),
@@ -168,28 +218,51 @@ fn made() -> Watch {
     let mut watch = Watch::begin(&PLAN_A).unwrap();
     let m = &mut watch.state.machine;
     m.tick = 7;
-    m.slots[0].state = 1;
-    (m.slots[1].state, m.slots[1].value) = (2, 9);
-    m.slots[2].state = 3;
-    (m.queue.items[0], m.queue.count) = (0, 1);
-    (m.holds.items[0], m.holds.count) = (Hold { section: 0, thread: 0 }, 1);
-    (m.waits.items[0], m.waits.count) = (2, 1);
+    (m.slots.states, m.slots.wants) = (0x321, 0x000);
+    m.wakes[1] = 9;
+    (m.queue.items, m.queue.count) = (0, 1);
+    (m.holds.sections, m.holds.threads, m.holds.count) = (0, 0, 1);
+    (m.waits.items, m.waits.count) = (2, 1);
     m.reported = 0;
     watch
 }
 
-#[test]
-fn clean_lent_state() {
+/// `made` with this number in every entry of a word that is not in use, and this tick number with every thread that is not asleep.
+fn made_with_unused(number: u8, tick: u32) -> Watch {
     let mut watch = made();
+    let m = &mut watch.state.machine;
+    let filled = word([number; 16]);
+    m.slots.states |= filled << 12;
+    m.slots.wants |= filled << 12 | (filled & 0xff); // but for thread 2, which waits
+    for list in [&mut m.queue.items, &mut m.holds.sections, &mut m.holds.threads, &mut m.waits.items] {
+        *list |= filled << 4;
+    }
+    m.wakes = [tick; 16];
+    m.wakes[1] = 9;
+    watch
+}
+
+/// Two Ticks wake thread 1, and a Give hands the section to thread 2.
+fn goes_on_cleanly(mut watch: Watch) {
     assert_eq!(watch.step(TICK, 0), Reply::Clean(0));
+    assert_eq!(conditions(&watch.state.machine), [(1, 0), (2, 9), (3, 0)]);
     assert_eq!(watch.step(TICK, 0), Reply::Clean(1));
     assert_eq!((watch.state.machine.tick, owed(&watch.state)), (9, vec![(READY, 1)]));
     assert_eq!(watch.step(READY, 1), Reply::Clean(0));
     assert_eq!(watch.step(GIVE, 0), Reply::Clean(3));
-    assert_eq!(
-        (held(&watch.state.machine.holds), listed(&watch.state.machine.queue)),
-        (vec![(0, 2)], &[0, 1, 2][..])
-    );
+    let m = &watch.state.machine;
+    assert_eq!((held(&m.holds), listed(&m.waits)), (vec![(0, 2)], vec![]));
+    assert_eq!((listed(&m.queue), conditions(m)), (vec![0, 1, 2], vec![(1, 0); 3]));
+}
+
+#[test]
+fn clean_lent_states() {
+    goes_on_cleanly(made());
+    for number in 0..16 {
+        for tick in [8, 9, u32::MAX] {
+            goes_on_cleanly(made_with_unused(number, tick));
+        }
+    }
 }
 
 fn refused(mut watch: Watch, question: u8, kind: u8, operand: u16) {
@@ -201,23 +274,30 @@ fn refused(mut watch: Watch, question: u8, kind: u8, operand: u16) {
 /// The parts of 12, each of a state that differs from `made` in that alone; 12 is asked before 7.
 #[test]
 fn ill_formed_states() {
-    let changes: [fn(&mut Watch); 20] = [
+    let changes: [fn(&mut Watch); 27] = [
         |w| w.state.machine.plan.threads = 0,
         |w| w.state.machine.plan.threads = 17,
         |w| w.state.machine.plan.sections = usize::MAX,
         |w| w.state.machine.plan.bases[1] = 65,
         |w| w.state.machine.plan.needs[2] = 2,
         |w| w.state.machine.tick = 4_000_000_001,
-        |w| w.state.machine.slots[1].value = 4_000_065_537,
-        |w| w.state.machine.slots[1].state = 4,
-        |w| w.state.machine.slots[2].value = 1,
-        |w| w.state.machine.queue.items[0] = 3,
+        |w| w.state.machine.wakes[1] = 4_000_065_537,
+        |w| w.state.machine.slots.states = 0x341,
+        |w| w.state.machine.slots.states = 0x361,
+        |w| w.state.machine.slots.states = 0x325,
+        |w| w.state.machine.slots.states = 0xb21,
+        |w| w.state.machine.slots.wants = 0x100,
+        |w| w.state.machine.queue.items = 3,
         |w| w.state.machine.queue.count = 2,
+        |w| w.state.machine.queue.count = 17,
         |w| w.state.machine.queue.count = usize::MAX,
-        |w| w.state.machine.waits.items[0] = 0,
+        |w| w.state.machine.waits.items = 0,
+        |w| w.state.machine.waits.items = 3,
+        |w| w.state.machine.waits.count = 17,
         |w| w.state.machine.holds.count = 2,
-        |w| w.state.machine.holds.items[0].section = 1,
-        |w| w.state.machine.holds.items[0].thread = 3,
+        |w| w.state.machine.holds.count = 17,
+        |w| w.state.machine.holds.sections = 1,
+        |w| w.state.machine.holds.threads = 3,
         |w| w.state.machine.reported = 3,
         |w| w.state.due.count = 1,
         |w| w.state.due.count = usize::MAX,
@@ -243,7 +323,7 @@ fn refused_steps() {
     watch.rule = 25;
     refused(watch, 13, TICK, 0);
     assert_eq!(watch.step(RELINQUISH, 0), Reply::Broken(25));
-    (watch.rule, watch.state.machine.slots[1].value) = (0, 4_000_065_536);
+    (watch.rule, watch.state.machine.wakes[1]) = (0, 4_000_065_536);
     assert_eq!(watch.step(RELINQUISH, 0), Reply::Clean(0));
     watch.state.machine.tick = 3_999_999_999;
     assert_eq!(watch.step(TICK, 0), Reply::Clean(0));

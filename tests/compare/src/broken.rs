@@ -14,7 +14,7 @@ use crate::state;
 /// Breaks the state in one way; says No, with the state as it was, where the state has nothing to break so.
 pub type Break = fn(&mut Parts, &mut Random) -> bool;
 
-pub const WAYS: [(&str, Break); 25] = [
+pub const WAYS: [(&str, Break); 26] = [
     ("plan fails 1: no thread", no_thread),
     ("plan fails 1: too many threads", too_many_threads),
     ("plan fails 1: too many sections", |p, r| {
@@ -48,6 +48,7 @@ pub const WAYS: [(&str, Break); 25] = [
     ("thread twice in the line", |p, r| listed_twice(&mut p.line, r)),
     ("thread twice in the waits", |p, r| listed_twice(&mut p.waits, r)),
     ("thread in no condition: number", no_such_condition),
+    ("thread in no condition: number, of a thread in a list", no_such_condition_listed),
     ("thread in no condition: ready, not in the line", |p, r| remove(&mut p.line, r)),
     ("thread in no condition: waiting, not in the waits", |p, r| remove(&mut p.waits, r)),
     ("thread in two conditions", in_two),
@@ -67,12 +68,12 @@ pub fn broken(fault: Fault, break_it: Break, random: &mut Random) -> Compared<Ve
     Ok(vec![reply.into()])
 }
 
-/// A state whose struct names a length beyond its own arrays.
-pub fn beyond_the_arrays(break_it: state::Lengthen, random: &mut Random) -> Compared<Vec<Answer>> {
+/// A state whose struct names a length that it has no room for.
+pub fn beyond_the_room(break_it: state::Lengthen, random: &mut Random) -> Compared<Vec<Answer>> {
     let parts = whole_parts(random);
     let record = record_for(&parts, random);
     let mut watch = state::lend(&parts, random);
-    let excess = random.pick(&[1, 2, 239, 240, 256, 1 << 32, usize::MAX - 300]);
+    let excess = random.pick(&[1, 2, 48, 239, 240, 256, 1 << 32, 1 << 62, usize::MAX - 300]);
     break_it(&mut watch, excess);
     Ok(vec![refused_12(watch, record)?.into()])
 }
@@ -109,9 +110,9 @@ fn put<T>(list: &mut [T], random: &mut Random, value: fn(&mut Random) -> T) -> b
     true
 }
 
-/// Adds an entry somewhere, if the library's array has room for it.
+/// Adds an entry somewhere, if the library's word has room for it.
 fn add<T>(list: &mut Vec<T>, entry: T, random: &mut Random) -> bool {
-    if list.len() >= 16 {
+    if list.len() >= state::ENTRIES {
         return false;
     }
     list.insert(random.below(list.len() + 1), entry);
@@ -120,7 +121,7 @@ fn add<T>(list: &mut Vec<T>, entry: T, random: &mut Random) -> bool {
 
 fn listed_beyond(list: &mut Vec<u16>, threads: usize, random: &mut Random) -> bool {
     let thread = beyond(random, threads);
-    add(list, thread, random)
+    thread.is_some_and(|thread| add(list, thread, random))
 }
 
 fn listed_twice(list: &mut Vec<u16>, random: &mut Random) -> bool {
@@ -139,13 +140,17 @@ fn held_twice(parts: &mut Parts, random: &mut Random) -> bool {
     add(&mut parts.holds, hold, random)
 }
 
-/// A number from the bound on that fits the library's byte.
-fn beyond(random: &mut Random, bound: usize) -> u16 {
-    let any = random.between(bound, 255);
-    random.pick(&[bound, any, 255]) as u16
+/// A number from the bound on that fits an entry of the library's words; none where the bound does not.
+fn beyond(random: &mut Random, bound: usize) -> Option<u16> {
+    let greatest = usize::from(state::GREATEST);
+    if bound > greatest {
+        return None;
+    }
+    let any = random.between(bound, greatest);
+    Some(random.pick(&[bound, any, greatest]) as u16)
 }
 
-/// The same, but not the one that the library takes for nobody.
+/// A number from the bound on that fits the library's byte, but not the one that it takes for nobody.
 fn not_nobody(random: &mut Random, bound: usize) -> u16 {
     let any = random.between(bound, 254);
     random.pick(&[bound, any, 254]) as u16
@@ -173,9 +178,30 @@ fn too_many_threads(parts: &mut Parts, random: &mut Random) -> bool {
 
 /// A dormant or sleeping thread, which stands in no list.
 fn no_such_condition(parts: &mut Parts, random: &mut Random) -> bool {
-    let number = random.pick(&[4, 5, 128, 255]);
-    let unlisted = parts.conditions.iter_mut().find(|condition| matches!(condition.0, 0 | 2));
+    let number = random.between(4, state::GREATEST.into()) as u8;
+    let unlisted = some_in(parts, &[0, 2], random);
     unlisted.is_some_and(|condition| set(condition, (number, 0)))
+}
+
+/// A ready or waiting thread, which goes on standing in its list; often with a number whose lowest two bits are as they were.
+fn no_such_condition_listed(parts: &mut Parts, random: &mut Random) -> bool {
+    let any = random.between(4, state::GREATEST.into()) as u8;
+    let more = random.pick(&[4, 8, 12]);
+    let alike = random.one_in(2);
+    let Some(condition) = some_in(parts, &[1, 3], random) else {
+        return false;
+    };
+    condition.0 = if alike { condition.0 + more } else { any };
+    true
+}
+
+/// Some thread in one of these conditions.
+fn some_in<'a>(parts: &'a mut Parts, states: &[u8], random: &mut Random) -> Option<&'a mut (u8, u64)> {
+    let mut found: Vec<&mut (u8, u64)> = parts.conditions.iter_mut().filter(|c| states.contains(&c.0)).collect();
+    if found.is_empty() {
+        return None;
+    }
+    Some(found.swap_remove(random.below(found.len())))
 }
 
 fn needs_from_s(parts: &mut Parts, random: &mut Random) -> bool {
@@ -195,30 +221,29 @@ fn holder_beyond(parts: &mut Parts, random: &mut Random) -> bool {
     if free.is_empty() {
         return false;
     }
-    let hold = (random.pick(&free), beyond(random, parts.threads));
-    add(&mut parts.holds, hold, random)
+    let section = random.pick(&free);
+    let thread = beyond(random, parts.threads);
+    thread.is_some_and(|thread| add(&mut parts.holds, (section, thread), random))
 }
 
 fn section_beyond(parts: &mut Parts, random: &mut Random) -> bool {
-    let hold = (beyond(random, parts.sections), random.below(parts.threads) as u16);
-    add(&mut parts.holds, hold, random)
+    let thread = random.below(parts.threads) as u16;
+    let section = beyond(random, parts.sections);
+    section.is_some_and(|section| add(&mut parts.holds, (section, thread), random))
 }
 
 fn waited_beyond(parts: &mut Parts, random: &mut Random) -> bool {
-    let Some(thread) = parts.waits.first().copied() else {
+    let Some(section) = beyond(random, parts.sections) else {
         return false;
     };
-    let any = random.between(parts.sections, 1 << 20);
-    parts.conditions[usize::from(thread)].1 = random.pick(&[parts.sections, any, parts.sections + 256]) as u64;
-    true
+    let waiting = some_in(parts, &[3], random);
+    waiting.is_some_and(|condition| set(&mut condition.1, section.into()))
 }
 
 fn sleeper_beyond(parts: &mut Parts, random: &mut Random) -> bool {
-    let Some(sleeper) = parts.conditions.iter_mut().find(|condition| condition.0 == 2) else {
-        return false;
-    };
-    sleeper.1 = LAST_SLEEPER + random.pick(&[1, 2, 65536, 294_901_759]);
-    true
+    let until = LAST_SLEEPER + random.pick(&[1, 2, 65536, 294_901_759]);
+    let sleeper = some_in(parts, &[2], random);
+    sleeper.is_some_and(|condition| set(&mut condition.1, until))
 }
 
 fn due_with(parts: &mut Parts, random: &mut Random, report: fn(&mut Random, usize) -> (u8, u16)) -> bool {
@@ -253,7 +278,7 @@ fn in_two(parts: &mut Parts, random: &mut Random) -> bool {
     }
 }
 
-/// The library's array holds 17, which is T + 1 for 16 threads; more than that is among the lengths beyond the arrays.
+/// The library's array holds 17, which is T + 1 for 16 threads; more than that is among the lengths beyond the room.
 fn too_many_due(parts: &mut Parts, random: &mut Random) -> bool {
     if parts.threads >= 16 {
         return false;

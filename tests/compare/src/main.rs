@@ -198,7 +198,7 @@ fn lent_states(tally: &mut Tally, scale: &Scale) {
     for (name, break_it) in state::LENGTHS {
         let mut family = Family::new(&format!("lent, broken: {name}"));
         let mut random = tally.numbers_for(name);
-        (0..scale.broken).for_each(|_| family.count(broken::beyond_the_arrays(break_it, &mut random)));
+        (0..scale.broken).for_each(|_| family.count(broken::beyond_the_room(break_it, &mut random)));
         tally.take(&family, &refusals(&[12]));
     }
 }

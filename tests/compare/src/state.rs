@@ -1,6 +1,7 @@
 //! Between the library's watch state and the second implementation's parts. Nothing else here knows the layout of the former.
 
-use beltcairn::{Hold, Holds, Machine, Plan, Queue, Report, Reports, Slot, State, Watch};
+use beltcairn::packed::{numbers, word};
+use beltcairn::{Holds, Machine, Plan, Queue, Report, Reports, Slots, State, Watch};
 use second::{Parts, NOBODY};
 
 use crate::random::Random;
@@ -8,13 +9,19 @@ use crate::random::Random;
 /// What the library writes for nobody.
 const NO_THREAD: u8 = 255;
 
-/// The parts as a watch state of the library. What the parts leave open (entries behind a list's end, threads from T on, the number
-/// beside a dormant or ready thread, reports already given) is filled at random: no answer may rest on it.
+/// How many entries a word of the library has, and the greatest number that fits one.
+pub const ENTRIES: usize = 16;
+pub const GREATEST: u16 = 15;
+
+/// The parts as a watch state of the library. What the parts leave open (entries behind a list's end, threads from T on, the section of a
+/// thread that does not wait, the tick number of one that is not asleep, reports already given) is filled at random: no answer may rest
+/// on it.
 pub fn lend(parts: &Parts, random: &mut Random) -> Watch {
     let machine = Machine {
         plan: plan(parts, random),
         tick: parts.tick as u32,
-        slots: std::array::from_fn(|thread| slot(parts.conditions.get(thread), random)),
+        slots: slots(&parts.conditions, random),
+        wakes: wakes(parts, random),
         queue: queue(&parts.line, random),
         holds: holds(&parts.holds, random),
         waits: queue(&parts.waits, random),
@@ -27,7 +34,7 @@ pub fn lend(parts: &Parts, random: &mut Random) -> Watch {
     }
 }
 
-/// The parts of a watch state of the library. Lists are read as far as their arrays go.
+/// The parts of a watch state of the library. Lists are read as far as there is room for them.
 pub fn parts(watch: &Watch) -> Parts {
     let machine = &watch.state.machine;
     let threads = machine.plan.threads.min(16);
@@ -38,12 +45,9 @@ pub fn parts(watch: &Watch) -> Parts {
         bases: machine.plan.bases[..threads].to_vec(),
         needs: machine.plan.needs[..threads].to_vec(),
         tick: machine.tick.into(),
-        conditions: machine.slots[..threads].iter().map(condition).collect(),
+        conditions: conditions(machine, threads),
         line: threads_in(&machine.queue),
-        holds: machine.holds.items[..machine.holds.count.min(16)]
-            .iter()
-            .map(|hold| (hold.section.into(), hold.thread.into()))
-            .collect(),
+        holds: oldest_first(&machine.holds),
         waits: threads_in(&machine.waits),
         given: named(machine.reported),
         due: due
@@ -60,19 +64,19 @@ pub fn with_breach(watch: &Watch, rule: u8) -> Watch {
     Watch { rule, ..*watch }
 }
 
-/// Gives one list a length that is that much beyond its array.
+/// Gives one list a length that is that much beyond its room.
 pub type Lengthen = fn(&mut Watch, usize);
 
-/// Lengths that the arrays of the state have no room for, one way at a time.
+/// Lengths that the words and the array of the state have no room for, one way at a time.
 pub const LENGTHS: [(&str, Lengthen); 4] = [
-    ("line longer than its array", |watch, excess| {
-        watch.state.machine.queue.count = 16 + excess
+    ("line longer than its word", |watch, excess| {
+        watch.state.machine.queue.count = ENTRIES + excess
     }),
-    ("waits longer than their array", |watch, excess| {
-        watch.state.machine.waits.count = 16 + excess
+    ("waits longer than their word", |watch, excess| {
+        watch.state.machine.waits.count = ENTRIES + excess
     }),
-    ("holds longer than their array", |watch, excess| {
-        watch.state.machine.holds.count = 16 + excess
+    ("holds longer than their words", |watch, excess| {
+        watch.state.machine.holds.count = ENTRIES + excess
     }),
     ("reports longer than their array", |watch, excess| {
         watch.state.due.count = 17 + excess;
@@ -89,53 +93,83 @@ fn plan(parts: &Parts, random: &mut Random) -> Plan {
     }
 }
 
-fn slot(condition: Option<&(u8, u64)>, random: &mut Random) -> Slot {
-    let any = random.number() as u32;
-    match condition {
-        Some((state @ (0 | 1), _)) => Slot { state: *state, value: any },
-        Some((state, value)) => Slot {
-            state: *state,
-            value: *value as u32,
-        },
-        None => Slot {
-            state: random.byte(),
-            value: any,
-        },
+/// A word with these entries; where there is none, any numbers, or one throughout.
+fn packed(entry: impl Fn(usize) -> Option<u64>, random: &mut Random) -> u64 {
+    let open = if random.one_in(2) {
+        numbers(random.number())
+    } else {
+        [random.below(ENTRIES) as u8; ENTRIES]
+    };
+    word(std::array::from_fn(|place| entry(place).map_or(open[place], fitting)))
+}
+
+/// Panics at a number that would be lent as another.
+fn fitting(number: u64) -> u8 {
+    assert!(number <= GREATEST.into(), "{number} does not fit an entry of a word");
+    number as u8
+}
+
+fn slots(conditions: &[(u8, u64)], random: &mut Random) -> Slots {
+    let state = |thread| conditions.get(thread).map(|(state, _)| u64::from(*state));
+    let want = |thread| match conditions.get(thread) {
+        Some((3, section)) => Some(*section),
+        _ => None,
+    };
+    Slots {
+        states: packed(state, random),
+        wants: packed(want, random),
     }
 }
 
-fn condition(slot: &Slot) -> (u8, u64) {
-    match slot.state {
-        0 | 1 => (slot.state, 0),
-        state => (state, slot.value.into()),
-    }
+/// A thread that is not asleep may well have a number at which others wake.
+fn wakes(parts: &Parts, random: &mut Random) -> [u32; 16] {
+    std::array::from_fn(|thread| match parts.conditions.get(thread) {
+        Some((2, until)) => *until as u32,
+        _ => {
+            let any = random.number() as u32;
+            random.pick(&[any, 0, parts.tick as u32, (parts.tick as u32).wrapping_add(1), u32::MAX])
+        }
+    })
+}
+
+fn conditions(machine: &Machine, threads: usize) -> Vec<(u8, u64)> {
+    let wants = numbers(machine.slots.wants);
+    let condition = |(thread, state): (usize, u8)| match state {
+        2 => (state, machine.wakes[thread].into()),
+        3 => (state, wants[thread].into()),
+        _ => (state, 0),
+    };
+    let states = numbers(machine.slots.states).into_iter().enumerate();
+    states.take(threads).map(condition).collect()
 }
 
 fn queue(list: &[u16], random: &mut Random) -> Queue {
-    let items = std::array::from_fn(|i| list.get(i).map_or_else(|| random.byte(), |thread| *thread as u8));
-    Queue { items, count: list.len() }
+    Queue {
+        items: packed(|place| list.get(place).map(|thread| u64::from(*thread)), random),
+        count: list.len(),
+    }
 }
 
 fn threads_in(queue: &Queue) -> Vec<u16> {
-    queue.items[..queue.count.min(16)].iter().map(|thread| u16::from(*thread)).collect()
+    numbers(queue.items).into_iter().take(queue.count).map(u16::from).collect()
 }
 
-fn holds(list: &[(u16, u16)], random: &mut Random) -> Holds {
-    let any = |random: &mut Random| Hold {
-        section: random.byte(),
-        thread: random.byte(),
-    };
-    let entry = |i: usize, random: &mut Random| match list.get(i) {
-        Some((section, thread)) => Hold {
-            section: *section as u8,
-            thread: *thread as u8,
-        },
-        None => any(random),
-    };
+/// The library has the latest hold first.
+fn holds(oldest_first: &[(u16, u16)], random: &mut Random) -> Holds {
+    let latest_first: Vec<(u16, u16)> = oldest_first.iter().rev().copied().collect();
     Holds {
-        items: std::array::from_fn(|i| entry(i, random)),
-        count: list.len(),
+        sections: packed(|place| latest_first.get(place).map(|hold| hold.0.into()), random),
+        threads: packed(|place| latest_first.get(place).map(|hold| hold.1.into()), random),
+        count: latest_first.len(),
     }
+}
+
+fn oldest_first(holds: &Holds) -> Vec<(u16, u16)> {
+    let pairs = numbers(holds.sections).into_iter().zip(numbers(holds.threads));
+    let latest_first = pairs.map(|(section, thread)| (section.into(), thread.into()));
+    let mut list: Vec<(u16, u16)> = latest_first.take(holds.count).collect();
+    list.reverse();
+    list
 }
 
 /// The reports and how many of them are given. With none due, any number from their count on says so.

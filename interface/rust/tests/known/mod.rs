@@ -6,6 +6,7 @@ use beltcairn::Verdict;
 pub const CREATE: u8 = 1;
 pub const DELAY: u8 = 2;
 pub const RELINQUISH: u8 = 3;
+pub const END: u8 = 4;
 pub const TAKE: u8 = 5;
 pub const GIVE: u8 = 6;
 pub const TICK: u8 = 7;

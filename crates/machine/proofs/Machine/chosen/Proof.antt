@@ -1,18 +1,21 @@
 -- `Machine::chosen` meets its contract: the parts it passes on are read from the state that the machine stands for.
 use mathlib.Core.Path.{ap, _∙_}
 use mathlib.Core.List.{[]}
-use Rattle.machine.specs.Lists.{numbered}
-use Rattle.machine.proofs.Chosen.{chosen-is}
+use Rattle.lists.specs.Lists.{numbered}
+use Rattle.machine.proofs.Chosen.{chosen-is, chosen-same, queue-positive}
 use Rattle.machine.proofs.Machine.chosen.Statement.{statement}
 use Rattle.machine.proofs.Machine.chosen.Tie as tie
 
 chosen-of-requires : tie.Need-chosen-of-requires
-chosen-of-requires c κs = c .before .before .before .before .before .pre .listed
+chosen-of-requires c κs =
+    let s = c .before .before .before .before .before in
+    (s .pre .listed .counts, queue-positive (s .args .self .plan) (s .pre .valid) (s .pre .listed))
 
 returns : tie.Need-returns
 returns c =
     let s = c .before .before .before .before .before .before in
-    c .chosen-of .ensures ∙ ap numbered (chosen-is (s .args .self) (s .pre .valid) (s .pre .ceilings') [])
+    let m = s .args .self in
+    c .chosen-of .ensures ∙ ap numbered (chosen-same (m .plan .bases) (s .args .ceilings .now) (s .pre .listed) ∙ chosen-is m (s .pre .valid) (s .pre .ceilings') [])
 
 pub chosen-spec : {M : Type 1} → statement M
 chosen-spec = tie.close (tie.spec chosen-of-requires returns)

@@ -4,17 +4,20 @@ use mathlib.Core.Logic.{⊎-elim}
 use mathlib.Core.List.{[], _∷_, _++_}
 use Prim.Native.Nat.{ℕ, _<_}
 use native.Mathlib.Omega.{arith}
+use borrow.Author.Needs.{needs}
 use Rattle.model.specs.Records.{Ready}
 use Rattle.model.specs.Calls.{create}
 use Rattle.machine.specs.declared.Machine.{Machine}
+use Rattle.machine.specs.declared.slots.Slots.{Slots}
+use Rattle.machine.specs.View.{conditionsOf}
 use Rattle.machine.specs.Rules.{createRule}
 use Rattle.machine.specs.Contracts.{CreateAsked}
 use Rattle.machine.proofs.Admitted.{Creates, admits, refuses}
 use Rattle.machine.proofs.Asking.{create-rule, creates}
 use Rattle.machine.proofs.Facts.{facts}
-use Rattle.machine.proofs.Sized.{slots-size}
 use Rattle.machine.proofs.Room.{create-room}
-use Rattle.machine.proofs.Meets.{alike, placed-seen, owed-count}
+use Rattle.machine.proofs.Views.{placed-seen}
+use Rattle.machine.proofs.Meets.{alike, nothing-owed, one-owed}
 use Rattle.machine.proofs.Machine.create.Statement.{statement}
 use Rattle.machine.proofs.Machine.create.Tie as tie
 
@@ -33,16 +36,17 @@ create-rule-requires : tie.Need-create-rule-requires
 create-rule-requires c κs = thread-fits (c .before .before .pre)
 
 placed-requires : tie.Need-placed-requires
-placed-requires c κs = thread-fits (c .before .before .before .before .pre)
+placed-requires c κs = (thread-fits (c .before .before .before .before .pre), omega arith)
 
 push-requires : tie.Need-push-requires
 push-requires c κs =
     let d = c .before .before in
     let k = d .before in
-    create-room (admitted (k .before .before .before .pre) (k .create-rule .ensures) (d .if1 .taken))
+    let a = k .before .before .before .pre in
+    (create-room (admitted a (k .create-rule .ensures) (d .if1 .taken)), thread-fits a)
 
-push-requires-2 : tie.Need-push-requires-2
-push-requires-2 c κs = let n = c .before .before .before .before .before .before in omega (arith, owed-count (n .none .result) (n .none .ensures))
+element-set-from-rs : tie.Need-element-set-from-rs
+element-set-from-rs c = search needs
 
 -- the ways that meet before the return: the thread was dormant, or the rule is broken. Last in each stand the machine and the reports.
 returns : tie.Need-returns
@@ -56,19 +60,19 @@ returns c =
     let e = k .create-rule .ensures ∙ create-rule (s .pre) in
     ⊎-elim
     (λ w.
-    rw (w .5, w .6)
+    rw (w .4, w .5)
     (admits _ e refl (w .0 .taken)
     (record {
       plan' = refl;
       seen =
           alike refl
-          (placed-seen (m .plan .threads) (m .slots) t (record { state = 1; value = 0 }) (slots-size m (s .good .0)) (thread-fits (s .pre)) (w .1 .ensures))
+          (ap (λ (k : Slots). conditionsOf (m .plan .threads) k (m .wakes)) (w .1 .ensures) ∙ placed-seen (m .plan .threads) (m .slots) (m .wakes) t 1 (omega arith))
           (w .3 .ensures)
           refl refl refl
-          (w .4 .ensures ∙ ap (λ l. l ++ (Ready t ∷ [])) (n .none .ensures));
+          (one-owed _ (n .none .ensures) _);
     })))
-    (λ w. rw (w .1, w .2) (refuses _ e (w .0 .left) (record { plan' = refl; seen = alike refl refl refl refl refl refl (n .none .ensures) })))
+    (λ w. rw (w .1, w .2) (refuses _ e (w .0 .left) (record { plan' = refl; seen = alike refl refl refl refl refl refl (nothing-owed _ (n .none .ensures)) })))
     (c .before .if1 .came)
 
 pub create-spec : {M : Type 1} → statement M
-create-spec = tie.close (tie.spec none-requires create-rule-requires placed-requires push-requires push-requires-2 returns)
+create-spec = tie.close (tie.spec none-requires create-rule-requires placed-requires push-requires element-set-from-rs returns)

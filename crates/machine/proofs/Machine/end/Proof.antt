@@ -1,18 +1,21 @@
 -- `Machine::end` meets its contract: the caller is dormant and in no queue.
-use mathlib.Core.Path.{_≡_, refl, sym, _∙_}
+use mathlib.Core.Path.{_≡_, refl, ap, sym, _∙_}
 use mathlib.Core.Logic.{⊎-elim}
 use Prim.Native.Nat.{ℕ}
+use native.Mathlib.Omega.{arith}
 use Rattle.model.specs.Calls.{end}
 use Rattle.machine.specs.declared.Machine.{Machine}
+use Rattle.machine.specs.declared.slots.Slots.{Slots}
+use Rattle.machine.specs.View.{conditionsOf}
 use Rattle.machine.specs.Rules.{freeRule}
 use Rattle.machine.specs.Contracts.{Asked}
 use Rattle.machine.proofs.Admitted.{Runs, admits, refuses, by}
 use Rattle.machine.proofs.Asking.{end-rule, ends}
 use Rattle.machine.proofs.Facts.{facts}
-use Rattle.machine.proofs.Sized.{slots-size}
 use Rattle.machine.proofs.Room.{caller-fits}
 use Rattle.machine.proofs.Chosen.{listed}
-use Rattle.machine.proofs.Meets.{alike, placed-seen}
+use Rattle.machine.proofs.Views.{placed-seen}
+use Rattle.machine.proofs.Meets.{alike, nothing-owed}
 use Rattle.machine.proofs.Machine.end.Statement.{statement}
 use Rattle.machine.proofs.Machine.end.Tie as tie
 
@@ -21,16 +24,16 @@ admitted : {m : Machine} {x rule : ℕ} → Asked m x → rule ≡ freeRule (m .
 admitted a e z = ends a (sym (end-rule a) ∙ sym e ∙ z)
 
 free-rule-requires : tie.Need-free-rule-requires
-free-rule-requires c κs = listed (facts (c .before .pre .formed)) .holds'
+free-rule-requires c κs = listed (facts (c .before .pre .formed)) .counts .holds'
 
 placed-requires : tie.Need-placed-requires
 placed-requires c κs =
     let d = c .before in
     let k = d .before in
-    caller-fits (admitted (k .before .before .pre) (k .free-rule .ensures) (d .if1 .taken))
+    (caller-fits (admitted (k .before .before .pre) (k .free-rule .ensures) (d .if1 .taken)), omega arith)
 
 without-requires : tie.Need-without-requires
-without-requires c κs = listed (facts (c .before .before .before .before .before .before .pre .formed)) .queue'
+without-requires c κs = listed (facts (c .before .before .before .before .before .before .pre .formed)) .counts .queue'
 
 none-requires : tie.Need-none-requires
 none-requires c κs = tt
@@ -54,12 +57,12 @@ returns c =
       plan' = refl;
       seen =
           alike refl
-          (placed-seen (m .plan .threads) (m .slots) (s .args .caller) (record { state = 0; value = 0 }) (slots-size m (s .good .0)) (caller-fits r) (w .2 .ensures))
+          (ap (λ (k : Slots). conditionsOf (m .plan .threads) k (m .wakes)) (w .2 .ensures) ∙ placed-seen (m .plan .threads) (m .slots) (m .wakes) (s .args .caller) 0 (omega arith))
           (w .4 .ensures)
           refl refl refl
-          (o .none .ensures);
+          (nothing-owed _ (o .none .ensures));
     })))
-    (λ w. rw (w .1) (refuses _ e (w .0 .left) (record { plan' = refl; seen = alike refl refl refl refl refl refl (o .none .ensures) })))
+    (λ w. rw (w .1) (refuses _ e (w .0 .left) (record { plan' = refl; seen = alike refl refl refl refl refl refl (nothing-owed _ (o .none .ensures)) })))
     (j .if1 .came)
 
 pub end-spec : {M : Type 1} → statement M

@@ -7,6 +7,7 @@ use mathlib.Core.Option.{Option, none, some}
 use Prim.Native.Nat.{ℕ, _<_}
 use native.Mathlib.Omega.{arith}
 use lib.ListN.{length, getD}
+use borrow.Author.Needs.{needs}
 use Rattle.model.specs.Searches.{_▷_, filter, firstGreatest}
 use Rattle.model.specs.Plan.{Plan}
 use Rattle.model.specs.Records.{Won, Lost, Ready}
@@ -15,17 +16,20 @@ use Rattle.model.specs.Calls.{wanted, aboveAll, heir, give}
 use Rattle.model.proofs.Searches.{greatest-is}
 use Rattle.plan.specs.View.{baseIn}
 use Rattle.machine.specs.declared.Machine.{Machine}
-use Rattle.machine.specs.Lists.{numbered, queued, held, inheritsIn}
-use Rattle.machine.specs.View.{planOf, conditionOf, noSlot, idle}
-use Rattle.machine.specs.Contracts.{Ceilings}
+use Rattle.lists.specs.Words.{nibble, entryOf}
+use Rattle.lists.specs.Lists.{numbered, queued, held}
+use Rattle.machine.specs.declared.slots.Slots.{Slots}
+use Rattle.machine.specs.View.{conditionsOf, planOf, idle}
+use Rattle.machine.specs.Contracts.{inheritsIn, Ceilings}
 use Rattle.machine.proofs.Admitted.{Gives, admits, refuses, by}
 use Rattle.machine.proofs.Asking.{give-rule, gives}
+use Rattle.machine.proofs.Conditions.{wants-it}
 use Rattle.machine.proofs.Facts.{Facts, facts}
-use Rattle.machine.proofs.Views.{length-held, condition-at}
-use Rattle.machine.proofs.Sized.{slots-size}
-use Rattle.machine.proofs.Room.{waiting-known, waiting-fits, waiting-room, wanted-small, give-room}
-use Rattle.machine.proofs.Chosen.{listed, above-is}
-use Rattle.machine.proofs.Meets.{alike, placed-seen, owed-count}
+use Rattle.lists.proofs.Laws.{length-held}
+use Rattle.machine.proofs.Views.{condition-at, placed-seen}
+use Rattle.machine.proofs.Room.{waiting-known, waiting-fits, waiting-room, held-once, give-room}
+use Rattle.machine.proofs.Chosen.{listed, above-is, heir-same, inherits-same, waits-positive}
+use Rattle.machine.proofs.Meets.{alike, nothing-owed, one-owed, two-owed}
 use Rattle.machine.proofs.Machine.give.Statement.{statement}
 use Rattle.machine.proofs.Machine.give.Tie as tie
 
@@ -37,29 +41,38 @@ named (some t) who e d = ap {B = Option ℕ} some (sym e)
 abbrev heirIn : Machine → Option ℕ
 heirIn m = firstGreatest (baseIn (m .plan .threads) (m .plan .bases)) (queued (m .waits))
 
-module _ (m : Machine) (f : Facts m) (who : ℕ) (e : who ≡ numbered (heirIn m)) where
+module _ (m : Machine) (f : Facts m) (who : ℕ) (e : who ≡ numbered (firstGreatest (entryOf (m .plan .bases)) (queued (m .waits)))) where
+  is-heir : who ≡ numbered (heirIn m)
+  is-heir = e ∙ ap numbered (heir-same (m .plan .bases) [] (listed f))
+
   -- an heir waits
   waits-for : (who ≡ 255 → ⊥) → Mem who (queued (m .waits))
-  waits-for d = greatest-is (baseIn (m .plan .threads) (m .plan .bases)) (queued (m .waits)) who (named (heirIn m) who e d) .0
+  waits-for d = greatest-is (baseIn (m .plan .threads) (m .plan .bases)) (queued (m .waits)) who (named (heirIn m) who is-heir d) .0
 
   -- no thread has the number 255
   nobody : who ≡ 255 → heirIn m ≡ none
-  nobody k = go (heirIn m) refl e
+  nobody k = go (heirIn m) refl is-heir
     where
       go : (o : Option ℕ) → heirIn m ≡ o → who ≡ numbered o → o ≡ none
       go none q r = refl
       go (some t) q r = absurd (omega (arith, waiting-fits f t (greatest-is (baseIn (m .plan .threads) (m .plan .bases)) (queued (m .waits)) t q .0)))
 
   -- where nobody waits nobody inherits, so whoever inherits is a thread
-  somebody : (ceilings : List ℕ) (hs : List Hold) {r : Bool} → r ≡ inheritsIn (baseIn (m .plan .threads) (m .plan .bases)) ceilings hs (heirIn m) → r ≡ true → who ≡ 255 → ⊥
-  somebody ceilings hs q t k = true≢false (sym t ∙ q ∙ ap (inheritsIn (baseIn (m .plan .threads) (m .plan .bases)) ceilings hs) (nobody k))
+  somebody : (ceilings : List ℕ) (hs : List Hold) {r : Bool} → r ≡ inheritsIn (entryOf (m .plan .bases)) ceilings hs (firstGreatest (entryOf (m .plan .bases)) (queued (m .waits))) → r ≡ true → who ≡ 255 → ⊥
+  somebody ceilings hs q t k =
+      true≢false (sym t ∙ q ∙ inherits-same (m .plan .bases) ceilings (listed f) hs ∙ ap (inheritsIn (baseIn (m .plan .threads) (m .plan .bases)) ceilings hs) (nobody k))
 
-  -- the section that an heir wants, from the slot that it is read from
-  wants-is : (who ≡ 255 → ⊥) → wanted (condition (idle m) who) ≡ wanted (conditionOf (getD (m .slots) who noSlot))
-  wants-is d = ap wanted (condition-at (m .plan .threads) (m .slots) who (waiting-known f who (waits-for d)))
+  -- the section that an heir wants is the one that its bits say
+  wants-is : (who ≡ 255 → ⊥) → nibble (m .slots .wants) who ≡ wanted (condition (idle m) who)
+  wants-is d =
+      let i = waits-for d in
+      let r = f .agree .waiting' who i in
+      let s = r .0 in
+      let at = sym (condition-at (m .plan .threads) (m .slots) (m .wakes) who (waiting-known f who i)) ∙ r .1 in
+      wants-it (nibble (m .slots .states) who) (nibble (m .slots .wants) who) (getD (m .wakes) who 0) s at (omega (arith, f .wants who s (r .1), f .fits .sections)) ∙ sym (ap wanted (r .1))
 
-  heir-wants : (who ≡ 255 → ⊥) → (who < 16) × (wanted (conditionOf (getD (m .slots) who noSlot)) < 16)
-  heir-wants d = let i = waits-for d in (waiting-fits f who i, omega (arith, wanted-small f who i, wants-is d))
+  heir-fits : (who ≡ 255 → ⊥) → who < 16
+  heir-fits d = waiting-fits f who (waits-for d)
 
 -- what Give does: nobody waits, the heir wins, the heir loses
 module _ (p : Plan) (x s : ℕ) (st : State) {a : State} where
@@ -79,18 +92,24 @@ module _ (p : Plan) (x s : ℕ) (st : State) {a : State} where
     lost-seen k q = rw (e, k) q
 
 -- the code's test is the model's
-tested : (m : Machine) (ceilings : List ℕ) → Facts m → Ceilings m ceilings → (w : ℕ) → heirIn m ≡ some w → {hs left : List Hold} → hs ≡ left → (r v : Bool)
-    → r ≡ inheritsIn (baseIn (m .plan .threads) (m .plan .bases)) ceilings hs (heirIn m)
+tested : (m : Machine) (ceilings : List ℕ) → (f : Facts m) → Ceilings m ceilings → (w : ℕ) → heirIn m ≡ some w → {hs left : List Hold} → hs ≡ left → (r v : Bool)
+    → r ≡ inheritsIn (entryOf (m .plan .bases)) ceilings hs (firstGreatest (entryOf (m .plan .bases)) (queued (m .waits)))
     → r ≡ v
     → aboveAll (planOf m) w left ≡ v
 tested m ceilings f c w e {hs} {left} z r v q k =
-    sym (q ∙ ap (inheritsIn (baseIn (m .plan .threads) (m .plan .bases)) ceilings hs) e ∙ above-is m (f .valid) c w hs ∙ ap (aboveAll (planOf m) w) z) ∙ k
+    sym
+    (q
+    ∙ inherits-same (m .plan .bases) ceilings (listed f) hs
+    ∙ ap (inheritsIn (baseIn (m .plan .threads) (m .plan .bases)) ceilings hs) e
+    ∙ above-is m (f .valid) c w hs
+    ∙ ap (aboveAll (planOf m) w) z)
+    ∙ k
 
 none-requires : tie.Need-none-requires
 none-requires c κs = tt
 
 give-rule-requires : tie.Need-give-rule-requires
-give-rule-requires c κs = listed (facts (c .before .before .before .before .before .pre .0 .asked .formed)) .holds'
+give-rule-requires c κs = listed (facts (c .before .before .before .before .before .pre .0 .asked .formed)) .counts .holds'
 
 abbrev start : tie.Then1 → tie.Start
 start c = c .before .before .before .before .before .before .before
@@ -100,7 +119,10 @@ granted : (c : tie.Then1) → Gives (start c .args .self) (start c .args .caller
 granted c = let a = start c .pre .0 in gives a (sym (give-rule a) ∙ sym (c .before .give-rule .ensures) ∙ c .if1 .taken)
 
 without-requires : tie.Need-without-requires
-without-requires c κs = listed (facts (start c .pre .0 .asked .formed)) .holds'
+without-requires c κs =
+    let s = start c in
+    let f = facts (s .pre .0 .asked .formed) in
+    (listed f .counts .holds', held-once (s .args .section) (s .args .caller) (held (s .args .self .holds)) (f .heldOnce))
 
 -- the hold that ended leaves room for another
 left-room : (c : tie.After-without) → c .without .result .count < 16
@@ -108,8 +130,9 @@ left-room c = omega (arith, length-held (c .without .result), ap length (c .with
 
 find-heir-requires : tie.Need-find-heir-requires
 find-heir-requires c κs =
-    let l = listed (facts (start (c .before) .pre .0 .asked .formed)) in
-    (l .threads', l .waits', omega (arith, left-room c))
+    let s = start (c .before) in
+    let f = facts (s .pre .0 .asked .formed) in
+    (listed f .counts .waits', omega (arith, left-room c), waits-positive (s .args .self .plan) (f .valid) (listed f))
 
 -- a free heir is a thread that waits
 free-heir : (c : tie.Then2) → c .before .find-heir .result .who ≡ 255 → ⊥
@@ -118,23 +141,25 @@ free-heir c =
     let s = start (h .before .before) in
     somebody (s .args .self) (facts (s .pre .0 .asked .formed)) (h .find-heir .result .who) (h .find-heir .ensures .0) (s .args .ceilings .now) (held (h .before .without .result)) (h .find-heir .ensures .1) (c .if2 .taken)
 
-heir-fits : (c : tie.Then2) → (c .before .find-heir .result .who < 16) × (wanted (conditionOf (getD (start (c .before .before .before) .args .self .slots) (c .before .find-heir .result .who) noSlot)) < 16)
-heir-fits c =
+heir-below : (c : tie.Then2) → c .before .find-heir .result .who < 16
+heir-below c =
     let h = c .before in
     let s = start (h .before .before) in
-    heir-wants (s .args .self) (facts (s .pre .0 .asked .formed)) (h .find-heir .result .who) (h .find-heir .ensures .0) (free-heir c)
+    heir-fits (s .args .self) (facts (s .pre .0 .asked .formed)) (h .find-heir .result .who) (h .find-heir .ensures .0) (free-heir c)
 
 wanted-requires : tie.Need-wanted-requires
-wanted-requires c κs = heir-fits (c .before)
+wanted-requires c κs = heir-below (c .before)
 
 push-requires : tie.Need-push-requires
-push-requires c κs = left-room (c .before .before .before .before)
+push-requires c κs =
+    let t = c .before .before in
+    (left-room (t .before .before), omega (arith, c .wanted .ensures), heir-below t)
 
 without-requires-2 : tie.Need-without-requires-2
-without-requires-2 c κs = listed (facts (start (c .before .before .before .before .before .before) .pre .0 .asked .formed)) .waits'
+without-requires-2 c κs = listed (facts (start (c .before .before .before .before .before .before) .pre .0 .asked .formed)) .counts .waits'
 
 placed-requires : tie.Need-placed-requires
-placed-requires c κs = heir-fits (c .before .before .before .before) .0
+placed-requires c κs = (heir-below (c .before .before .before .before), omega arith)
 
 push-requires-2 : tie.Need-push-requires-2
 push-requires-2 c κs =
@@ -142,23 +167,16 @@ push-requires-2 c κs =
     let h = t .before in
     let s = start (h .before .before) in
     let f = facts (s .pre .0 .asked .formed) in
-    waiting-room f (h .find-heir .result .who) (waits-for (s .args .self) f (h .find-heir .result .who) (h .find-heir .ensures .0) (free-heir t))
+    (waiting-room f (h .find-heir .result .who) (waits-for (s .args .self) f (h .find-heir .result .who) (h .find-heir .ensures .0) (free-heir t)), heir-below t)
 
--- nothing is due yet
-unowed : (c : tie.Then1) → c .before .before .before .before .before .before .none .result .count ≡ 0
-unowed c = let n = c .before .before .before .before .before .before in owed-count (n .none .result) (n .none .ensures)
+element-set-from-rs : tie.Need-element-set-from-rs
+element-set-from-rs c = search needs
 
-push-requires-3 : tie.Need-push-requires-3
-push-requires-3 c κs = omega (arith, unowed (c .before .before .before .before .before .before .before .before .before .before))
+element-set-from-rs-2 : tie.Need-element-set-from-rs-2
+element-set-from-rs-2 c = search needs
 
-push-requires-4 : tie.Need-push-requires-4
-push-requires-4 c κs =
-    let h = c .before .before .before .before .before .before .before .before .before in
-    let n = h .before .before .before .before .before .before .before .before in
-    omega (arith, owed-count (c .push3 .result) (c .push3 .ensures ∙ ap (λ l. l ++ (Won (h .find-heir .result .who) ∷ [])) (n .none .ensures)))
-
-push-requires-5 : tie.Need-push-requires-5
-push-requires-5 c κs = omega (arith, unowed (c .before .before .before .before))
+element-set-from-rs-3 : tie.Need-element-set-from-rs-3
+element-set-from-rs-3 c = search needs
 
 -- The ways that meet before the return: no rule is broken, or one is. Where none is, three meet: the heir wins, the heir loses, nobody waits.
 -- Last in each stand the machine and the reports, and in the inner ones the holds.
@@ -183,40 +201,40 @@ returns c =
     (⊎-elim
     (λ w.
     let d = somebody m f t (e .0) (s .args .ceilings .now) (held (v .1 .result)) (e .1) (w .0 .taken) in
-    let o = named (heirIn m) t (e .0) d in
-    rw (w .10, w .11, w .12)
+    let o = named (heirIn m) t (is-heir m f t (e .0)) d in
+    rw (w .8, w .9, w .10)
     (record {
       plan' = refl;
       seen =
           won-seen (planOf m) x (s .args .section) (idle m) t o
           (tested m (s .args .ceilings .now) f (s .pre .1) t o left (v .2 .result .free) true (e .1) (w .0 .taken))
           (alike refl
-          (placed-seen (m .plan .threads) (m .slots) t (record { state = 1; value = 0 }) (slots-size m (s .good .0)) (heir-wants m f t (e .0) d .0) (w .5 .ensures))
+          (ap (λ (k : Slots). conditionsOf (m .plan .threads) k (m .wakes)) (w .5 .ensures) ∙ placed-seen (m .plan .threads) (m .slots) (m .wakes) t 1 (omega arith))
           (w .7 .ensures)
-          (w .3 .ensures ∙ ap₂ (λ (k : ℕ) (hs : List Hold). hold k t ∷ hs) (w .2 .ensures ∙ sym (wants-is m f t (e .0) d)) left)
+          (w .3 .ensures ∙ ap₂ (λ (k : ℕ) (hs : List Hold). hold k t ∷ hs) (w .2 .ensures ∙ wants-is m f t (e .0) d) left)
           (w .4 .ensures)
           refl
-          (w .9 .ensures ∙ ap (λ l. l ++ (Ready t ∷ [])) (w .8 .ensures ∙ ap (λ l. l ++ (Won t ∷ [])) (n .none .ensures))));
+          (two-owed _ (n .none .ensures) _ _));
     }))
     (⊎-elim
     (λ w.
-    let o = named (heirIn m) t (e .0) (w .1 .taken) in
-    rw (w .3, w .4, w .5)
+    let o = named (heirIn m) t (is-heir m f t (e .0)) (w .1 .taken) in
+    rw (w .2, w .3, w .4)
     (record {
       plan' = refl;
       seen =
           lost-seen (planOf m) x (s .args .section) (idle m) t o
           (tested m (s .args .ceilings .now) f (s .pre .1) t o left (v .2 .result .free) false (e .1) (w .0 .left))
-          (alike refl refl refl left refl refl (w .2 .ensures ∙ ap (λ l. l ++ (Lost t ∷ [])) (n .none .ensures)));
+          (alike refl refl refl left refl refl (one-owed _ (n .none .ensures) _));
     }))
     (λ w.
     rw (w .2, w .3, w .4)
     (record {
       plan' = refl;
-      seen = none-seen (planOf m) x (s .args .section) (idle m) (nobody m f t (e .0) (w .1 .left)) (alike refl refl refl left refl refl (n .none .ensures));
+      seen = none-seen (planOf m) x (s .args .section) (idle m) (nobody m f t (e .0) (w .1 .left)) (alike refl refl refl left refl refl (nothing-owed _ (n .none .ensures)));
     })))
     (v .3 .came))))
-    (λ v. rw (v .1, v .2) (refuses _ q (v .0 .left) (record { plan' = refl; seen = alike refl refl refl refl refl refl (n .none .ensures) })))
+    (λ v. rw (v .1, v .2) (refuses _ q (v .0 .left) (record { plan' = refl; seen = alike refl refl refl refl refl refl (nothing-owed _ (n .none .ensures)) })))
     (c .before .if1 .came)
 
 pub give-spec : {M : Type 1} → statement M
@@ -232,7 +250,7 @@ give-spec =
     without-requires-2
     placed-requires
     push-requires-2
-    push-requires-3
-    push-requires-4
-    push-requires-5
+    element-set-from-rs
+    element-set-from-rs-2
+    element-set-from-rs-3
     returns)

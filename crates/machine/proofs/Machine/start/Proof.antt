@@ -1,5 +1,6 @@
 -- `Machine::start` meets its contract: empty lists, and slots that are all dormant.
 use mathlib.Core.Path.{refl}
+use lib.ListN.{replicate}
 use borrow.Author.Needs.{needs}
 use Rattle.plan.proofs.Laws.{threads-view}
 use Rattle.machine.proofs.Conditions.{all-dormant}
@@ -20,7 +21,7 @@ returns c =
     let p = c .before .before .before .args .plan in
     record {
       plan' = refl;
-      seen = rw (threads-view p, all-dormant (p .threads), c .before .before .none .ensures, c .before .none2 .ensures, c .none3 .ensures);
+      seen = rw (threads-view p, all-dormant (p .threads) (replicate 16 0), c .before .before .none .ensures, c .before .none2 .ensures, c .none3 .ensures);
     }
 
 pub start-spec : {M : Type 1} → statement M

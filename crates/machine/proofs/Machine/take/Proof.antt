@@ -6,6 +6,7 @@ use mathlib.Core.List.{List, [], _∷_, _++_}
 use Prim.Native.Nat.{ℕ, _<_}
 use native.Mathlib.Omega.{arith}
 use lib.Dec.{ltb}
+use borrow.Author.Needs.{needs}
 use Rattle.model.specs.Searches.{_▷_, all}
 use Rattle.model.specs.Plan.{Plan}
 use Rattle.model.specs.Records as records
@@ -16,16 +17,17 @@ use Rattle.model.proofs.Tests.{from-true}
 use Rattle.plan.specs.View.{baseIn}
 use Rattle.machine.specs.declared.Machine.{Machine}
 use Rattle.machine.specs.declared.calls.Called.{Called}
-use Rattle.machine.specs.Lists.{held, ceilingIn}
-use Rattle.machine.specs.View.{planOf, idle}
+use Rattle.lists.specs.Lists.{held, ceilingIn}
+use Rattle.machine.specs.declared.slots.Slots.{Slots}
+use Rattle.machine.specs.View.{conditionsOf, planOf, idle}
 use Rattle.machine.specs.Contracts.{Ceilings, SectionAsked, Makes}
 use Rattle.machine.proofs.Admitted.{Takes, Meets, asked, admits, refuses, by}
 use Rattle.machine.proofs.Asking.{take-rule, takes}
 use Rattle.machine.proofs.Facts.{Facts, facts}
-use Rattle.machine.proofs.Sized.{slots-size}
 use Rattle.machine.proofs.Room.{caller-fits, take-room, waits-room}
 use Rattle.machine.proofs.Chosen.{listed, above-is}
-use Rattle.machine.proofs.Meets.{alike, placed-seen, owed-count}
+use Rattle.machine.proofs.Views.{waits-seen}
+use Rattle.machine.proofs.Meets.{alike, nothing-owed, one-owed}
 use Rattle.machine.proofs.Machine.take.Statement.{statement}
 use Rattle.machine.proofs.Machine.take.Tie as tie
 
@@ -58,10 +60,13 @@ take-rule-requires : tie.Need-take-rule-requires
 take-rule-requires c κs =
     let a = c .before .before .before .before .before .pre .0 in
     let f = facts (a .asked .formed) in
-    (f .fits .threads, listed f .holds', omega (arith, a .known, f .fits .sections))
+    (f .fits .threads, listed f .counts .holds', omega (arith, a .known, f .fits .sections))
 
 abbrev start : tie.Then1 → tie.Start
 start c = c .before .before .before .before .before .before .before
+
+section-fits : (s : tie.Start) → s .args .section < 16
+section-fits s = omega (arith, s .pre .0 .known, facts (s .pre .0 .asked .formed) .fits .sections)
 
 -- where no rule is broken, what the rules of Take say holds
 granted : (c : tie.Then1) → Takes (start c .args .self) (start c .args .caller) (start c .args .section)
@@ -71,7 +76,7 @@ base-requires : tie.Need-base-requires
 base-requires c κs = facts (start c .pre .0 .asked .formed) .fits .threads
 
 clear-requires : tie.Need-clear-requires
-clear-requires c κs = listed (facts (start (c .before) .pre .0 .asked .formed)) .holds'
+clear-requires c κs = listed (facts (start (c .before) .pre .0 .asked .formed)) .counts .holds'
 
 push-requires : tie.Need-push-requires
 push-requires c κs =
@@ -79,28 +84,28 @@ push-requires c κs =
     let b = k .before in
     let s = start (b .before) in
     let m = s .args .self in
-    take-room (granted (b .before))
-    (from-true (aboveAll (planOf m) (s .args .caller) (heldByOthers (s .args .caller) (held (m .holds))))
-    (tested m (s .args .ceilings .now) (facts (s .pre .0 .asked .formed)) (s .pre .1) (s .args .caller) (b .base .result) (k .clear .result) true (b .base .ensures) (k .clear .ensures) (c .if2 .taken)))
-
--- nothing is due yet
-unowed : (c : tie.Then1) → c .before .before .before .before .before .before .none .result .count < 17
-unowed c = let n = c .before .before .before .before .before .before in omega (arith, owed-count (n .none .result) (n .none .ensures))
-
-push-requires-2 : tie.Need-push-requires-2
-push-requires-2 c κs = unowed (c .before .before .before .before)
+    let g = granted (b .before) in (
+      take-room g
+          (from-true (aboveAll (planOf m) (s .args .caller) (heldByOthers (s .args .caller) (held (m .holds))))
+          (tested m (s .args .ceilings .now) (facts (s .pre .0 .asked .formed)) (s .pre .1) (s .args .caller) (b .base .result) (k .clear .result) true (b .base .ensures) (k .clear .ensures) (c .if2 .taken))),
+      section-fits s,
+      caller-fits (g .runs),
+    )
 
 without-requires : tie.Need-without-requires
-without-requires c κs = listed (facts (start (c .before .before .before .before) .pre .0 .asked .formed)) .queue'
+without-requires c κs = listed (facts (start (c .before .before .before .before) .pre .0 .asked .formed)) .counts .queue'
 
-placed-requires : tie.Need-placed-requires
-placed-requires c κs = caller-fits (granted (c .before .before .before .before .before .before) .runs)
+waits-for-requires : tie.Need-waits-for-requires
+waits-for-requires c κs = let g = c .before .before .before .before .before .before in (caller-fits (granted g .runs), section-fits (start g))
 
-push-requires-3 : tie.Need-push-requires-3
-push-requires-3 c κs = waits-room (granted (c .before .before .before .before .before .before .before .before) .runs)
+push-requires-2 : tie.Need-push-requires-2
+push-requires-2 c κs = let g = granted (c .before .before .before .before .before .before .before .before) .runs in (waits-room g, caller-fits g)
 
-push-requires-4 : tie.Need-push-requires-4
-push-requires-4 c κs = unowed (c .before .before .before .before .before .before .before .before .before)
+element-set-from-rs : tie.Need-element-set-from-rs
+element-set-from-rs c = search needs
+
+element-set-from-rs-2 : tie.Need-element-set-from-rs-2
+element-set-from-rs-2 c = search needs
 
 -- the ways that meet before the return: the caller wins, the caller waits, a rule is broken. Last in each stand the machine and the reports.
 returns : tie.Need-returns
@@ -115,18 +120,18 @@ returns c =
     let e = r .take-rule .ensures ∙ take-rule a in
     ⊎-elim
     (λ w.
-    rw (w .6, w .7)
+    rw (w .5, w .6)
     (made _ a e (w .0 .taken)
     (record {
       plan' = refl;
       seen =
           won-seen (planOf m) x (s .args .section) (idle m)
           (tested m (s .args .ceilings .now) f (s .pre .1) x (w .1 .result) (w .2 .result) true (w .1 .ensures) (w .2 .ensures) (w .3 .taken))
-          (alike refl refl refl (w .4 .ensures) refl refl (w .5 .ensures ∙ ap (λ l. l ++ (Won x ∷ [])) (n .none .ensures)));
+          (alike refl refl refl (w .4 .ensures) refl refl (one-owed _ (n .none .ensures) _));
     })))
     (⊎-elim
     (λ w.
-    rw (w .11, w .12)
+    rw (w .10, w .11)
     (made _ a e (w .0 .taken)
     (record {
       plan' = refl;
@@ -134,14 +139,14 @@ returns c =
           lost-seen (planOf m) x (s .args .section) (idle m)
           (tested m (s .args .ceilings .now) f (s .pre .1) x (w .1 .result) (w .2 .result) false (w .1 .ensures) (w .2 .ensures) (w .3 .left))
           (alike refl
-          (placed-seen (m .plan .threads) (m .slots) x (record { state = 3; value = s .args .section }) (slots-size m (s .good .0)) (caller-fits (takes a (sym e ∙ w .0 .taken) .runs)) (w .7 .ensures))
+          (ap (λ (k : Slots). conditionsOf (m .plan .threads) k (m .wakes)) (w .7 .ensures) ∙ waits-seen (m .plan .threads) (m .slots) (m .wakes) x (s .args .section) (section-fits s))
           (w .5 .ensures)
           refl
           (w .9 .ensures)
           refl
-          (w .10 .ensures ∙ ap (λ l. l ++ (Lost x ∷ [])) (n .none .ensures)));
+          (one-owed _ (n .none .ensures) _));
     })))
-    (λ w. rw (w .1, w .2) (refuses _ e (w .0 .left) (record { plan' = refl; seen = alike refl refl refl refl refl refl (n .none .ensures) }))))
+    (λ w. rw (w .1, w .2) (refuses _ e (w .0 .left) (record { plan' = refl; seen = alike refl refl refl refl refl refl (nothing-owed _ (n .none .ensures)) }))))
     (c .before .if1 .came)
 
 pub take-spec : {M : Type 1} → statement M
@@ -153,9 +158,9 @@ take-spec =
     base-requires
     clear-requires
     push-requires
-    push-requires-2
+    element-set-from-rs
     without-requires
-    placed-requires
-    push-requires-3
-    push-requires-4
+    waits-for-requires
+    push-requires-2
+    element-set-from-rs-2
     returns)

@@ -2,9 +2,9 @@
 use mathlib.Core.Path.{_∙_}
 use mathlib.Core.Logic.{⊎-elim}
 use native.Mathlib.Omega.{arith}
-use Rattle.plan.specs.View.{baseIn}
-use Rattle.machine.specs.Lists.{queued, held}
-use Rattle.machine.proofs.Views.{queued-empty}
+use Rattle.lists.specs.Words.{entryOf}
+use Rattle.lists.specs.Lists.{queued, held}
+use Rattle.lists.proofs.Laws.{queued-empty, nibbles-small}
 use Rattle.machine.proofs.Chosen.{Tells, found-owner, no-urgency, rivalled-by}
 use Rattle.machine.proofs.choice.rivalled_of.Statement.{statement}
 use Rattle.machine.proofs.choice.rivalled_of.Tie as tie
@@ -13,23 +13,23 @@ owner-requires : tie.Need-owner-requires
 owner-requires c κs = c .before .before .pre .0 .holds'
 
 urgency-requires : tie.Need-urgency-requires
-urgency-requires c κs = let l = c .before .before .before .pre .0 in (l .waits', l .threads')
+urgency-requires c κs = c .before .before .before .pre .0 .waits'
 
 rivalled-requires : tie.Need-rivalled-requires
-rivalled-requires c κs = let l = c .before .before .pre .0 in (l .queue', l .threads')
+rivalled-requires c κs = let k = c .before .before .pre in (k .0 .queue', k .1)
 
 returns : tie.Need-returns
 returns c =
     let j = c .before in
     let s = j .before .before in
     let a = s .args in
-    let base = baseIn (a .threads) (a .bases) in
+    let base = entryOf (a .bases) in
     let tells : Tells base (j .if1 .owner) (j .if1 .urgency) (a .ceilings .now) (held (a .holds)) (queued (a .waits)) =
     ⊎-elim
     (λ w. found-owner base (a .ceilings .now) (held (a .holds)) (queued (a .waits)) (w .3 ∙ w .1 .ensures) (w .4 ∙ w .2 .ensures))
     (λ w. no-urgency base (a .ceilings .now) (held (a .holds)) (w .2) (queued-empty (a .waits) (omega (arith, w .0 .left))))
     (j .if1 .came) in
-    c .rivalled .ensures ∙ rivalled-by tells (queued (a .queue)) (λ t i. omega (arith, s .pre .0 .known t i)) (a .thread) (omega (arith, s .pre .1))
+    c .rivalled .ensures ∙ rivalled-by tells (queued (a .queue)) (λ t i. omega (arith, nibbles-small (a .queue .count) (a .queue .items) t i)) (a .thread) (omega (arith, s .pre .1))
 
 pub rivalled-of-spec : {M : Type 1} → statement M
 rivalled-of-spec = tie.close (tie.spec owner-requires urgency-requires rivalled-requires returns)

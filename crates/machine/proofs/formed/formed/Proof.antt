@@ -38,7 +38,7 @@ once-requires c κs =
     let k = c .before .before .before in
     let p = k .before .before in
     let f = counts-fit (p .before .before .before .before .args .state .machine) (was-yes (p .before .passes .ensures) (p .if1 .left)) (was-yes (k .before .counted .ensures) (k .if2 .left)) in
-    (f .holds', f .fits .sections)
+    (f .counts .holds', f .fits .sections)
 
 returns-4 : tie.Need-returns-4
 returns-4 c =
@@ -51,7 +51,7 @@ stand-once-requires c κs =
     let k = c .before .before .before .before .before .before .before .before in
     let p = k .before .before in
     let f = counts-fit (p .before .before .before .before .args .state .machine) (was-yes (p .before .passes .ensures) (p .if1 .left)) (was-yes (k .before .counted .ensures) (k .if2 .left)) in
-    (f .fits .threads, f .queue', f .waits')
+    (f .fits .threads, f .counts .queue', f .counts .waits')
 
 returns-5 : tie.Need-returns-5
 returns-5 c =

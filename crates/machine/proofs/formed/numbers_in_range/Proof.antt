@@ -24,7 +24,7 @@ in-range-requires c κs = search needs
 returns-3 : tie.Need-returns-3
 returns-3 c =
     let k = c .before in
-    refused-condition (k .before .before .before .before .before .before .before .args .m) (was-no (k .in-range .ensures) (c .if4 .taken))
+    refused-condition (k .before .before .before .before .before .before .before .before .args .m) (was-no (k .in-range .ensures) (c .if4 .taken))
 
 below-requires : tie.Need-below-requires
 below-requires c κs = search needs
@@ -32,7 +32,7 @@ below-requires c κs = search needs
 returns-4 : tie.Need-returns-4
 returns-4 c =
     let k = c .before in
-    refused-queue (k .before .before .before .before .before .before .before .before .before .before .args .m) (was-no (k .below .ensures) (c .if5 .taken))
+    refused-queue (k .before .before .before .before .before .before .before .before .before .before .before .args .m) (was-no (k .below .ensures) (c .if5 .taken))
 
 below-requires-2 : tie.Need-below-requires-2
 below-requires-2 c κs = search needs
@@ -40,7 +40,7 @@ below-requires-2 c κs = search needs
 returns-5 : tie.Need-returns-5
 returns-5 c =
     let k = c .before in
-    refused-waits (k .before .before .before .before .before .before .before .before .before .before .before .before .before .args .m) (was-no (k .below2 .ensures) (c .if6 .taken))
+    refused-waits (k .before .before .before .before .before .before .before .before .before .before .before .before .before .before .args .m) (was-no (k .below2 .ensures) (c .if6 .taken))
 
 in-range-requires-2 : tie.Need-in-range-requires-2
 in-range-requires-2 c κs = search needs
@@ -50,7 +50,7 @@ returns-6 c =
     let w = c .before .before in
     let q = w .before .before .before in
     let s = q .before .before .before in
-    let r = s .before .before .before in
+    let r = s .before .before .before .before in
     let e = r .before in
     let m = e .before .before .before .before .args .m in
     holds-decide m (e .if1 .left)

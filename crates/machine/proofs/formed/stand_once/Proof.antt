@@ -1,81 +1,106 @@
--- `stand_once` meets its contract: a loop that asks whether all threads stand where their conditions say.
-use mathlib.Core.Path.{ap, _∙_}
-use mathlib.Core.Bool.{Bool}
-use mathlib.Core.List.{List, map-id}
-use Prim.Native.Nat.{ℕ, _-_, _≤_}
+-- `stand_once` meets its contract: a loop that asks whether all threads stand where their conditions say, by the tables that count the queue and the waits.
+use mathlib.Core.Path.{_≡_, ap, sym, _∙_}
+use mathlib.Core.Bool.{Bool, true, false, cond, _&&_}
+use mathlib.Core.List.{List, map, map-id}
+use Prim.Native.Nat.{ℕ, _-_, _≤_, _<_}
 use native.Mathlib.Omega.{arith}
 use borrow.Author.Needs.{needs}
 use borrow.Author.Tests.{eq-eqb, ne-eqb}
-use lib.ListN.{getD}
+use lib.Dec.{eqb, leb}
 use Rattle.model.specs.Searches.{all, upTo}
-use Rattle.model.specs.Formed.{standsOnce}
-use Rattle.plan.proofs.Loops.{AllLeft, all-begin, passed, failed, all-passed}
-use Rattle.machine.specs.declared.slots.Slot.{Slot}
-use Rattle.machine.specs.declared.queue.Queue.{Queue}
-use Rattle.machine.specs.Lists.{queued}
-use Rattle.machine.specs.View.{conditionOf, noSlot}
+use Rattle.model.specs.Formed.{times}
+use Rattle.plan.proofs.Loops.{AllLeft, all-begin, passed, failed, all-passed, listed}
+use Rattle.lists.specs.Words.{nibble, entryOf}
+use Rattle.lists.specs.Lists.{queued}
+use Rattle.machine.specs.Contracts.{standsBy}
 use Rattle.machine.proofs.formed.stand_once.Statement.{statement}
 use Rattle.machine.proofs.formed.stand_once.Tie as tie
 
-abbrev stands : (queue waits : Queue) → List Slot → (thread : ℕ) → Bool
-stands queue waits slots t = standsOnce (queued queue) (queued waits) (conditionOf (getD slots t noSlot)) t
+-- what the tables say of a thread
+abbrev standsIn : (lined waiting : List ℕ) (state thread : ℕ) → Bool
+standsIn lined waiting s t = eqb (entryOf lined t) (cond (eqb s 1) 1 0) && eqb (entryOf waiting t) (cond (leb 3 s) 1 0)
 
+-- they say it of the queue and the waits
+says : (queue waits lined waiting : List ℕ) → lined ≡ map (λ t. times (λ u. eqb u t) queue) (upTo 16) → waiting ≡ map (λ t. times (λ u. eqb u t) waits) (upTo 16)
+    → (s t : ℕ) → t < 16 → standsIn lined waiting s t ≡ standsBy queue waits s t
+says queue waits lined waiting d e s t h = rw (d, e, listed (λ t. times (λ u. eqb u t) queue) 16 t 0 h, listed (λ t. times (λ u. eqb u t) waits) 16 t 0 h)
+
+-- whatever test agrees with the tables on the threads: whether all that are left pass it is whether all do
 abbrev Inv-loop : tie.InvT-loop
-Inv-loop threads queue waits slots t₀ t = (t ≤ threads) × AllLeft (stands queue waits slots) (λ u. u) threads t
+Inv-loop threads slots lined waiting t₀ t =
+    (t ≤ threads) × ((f : ℕ → Bool) → ((u : ℕ) → u < threads → standsIn lined waiting (nibble (slots .states) u) u ≡ f u) → AllLeft f (λ u. u) threads t)
 
 abbrev μ-loop : tie.MeasureT-loop
-μ-loop threads queue waits slots t₀ t = threads - t
+μ-loop threads slots lined waiting t₀ t = threads - t
+
+tally-requires : tie.Need-tally-requires Inv-loop μ-loop
+tally-requires c κs = search needs
+
+tally-requires-2 : tie.Need-tally-requires-2 Inv-loop μ-loop
+tally-requires-2 c κs = search needs
 
 loop-holds : tie.Need-loop-holds Inv-loop μ-loop
-loop-holds c = (omega arith, all-begin (stands (c .args .queue) (c .args .waits) (c .args .t2)) (λ u. u) (c .args .threads))
+loop-holds c = (omega arith, λ f e. all-begin f (λ u. u) (c .before .before .args .threads))
 
-mul-s : tie.Need-mul-s Inv-loop μ-loop
-mul-s c = search needs
+cast-nibble-at : tie.Need-cast-nibble-at Inv-loop μ-loop
+cast-nibble-at c = search needs
 
-array-copy-out-s : tie.Need-array-copy-out-s Inv-loop μ-loop
-array-copy-out-s c = search needs
+nibble-at-requires : tie.Need-nibble-at-requires Inv-loop μ-loop
+nibble-at-requires c κs = search needs
 
-cast-times : tie.Need-cast-times Inv-loop μ-loop
-cast-times c = search needs
-
-times-requires : tie.Need-times-requires Inv-loop μ-loop
-times-requires c κs = search needs
+array-read-if1 : tie.Need-array-read-if1 Inv-loop μ-loop
+array-read-if1 c = search needs
 
 in-queue-requires : tie.Need-in-queue-requires Inv-loop μ-loop
 in-queue-requires c κs = search needs
 
-returns : tie.Need-returns Inv-loop μ-loop
-returns c =
-    let k = c .before .before .before .before .before in
-    let a = k .before .args in
-    let f = stands (a .queue) (a .waits) (a .t2) in
-    let n = c .before .before .times in
-    let r = c .before .in-queue in
-    failed f (λ u. u) (a .threads) (k .loop .t) (omega arith) (k .loop .inv .1) (rw (← n .ensures, ← r .ensures, ne-eqb (n .result) (r .result) (c .if1 .taken)))
+-- the standing in the queue and the waits is such a test
+answers : (k : tie.At-loop Inv-loop μ-loop) (b : Bool)
+    → let c = k .before in
+    let a = c .before .before .args in
+    ((f : ℕ → Bool) → ((u : ℕ) → u < a .threads → standsIn (c .before .tally .result) (c .tally2 .result) (nibble (a .slots .states) u) u ≡ f u) → b ≡ all f (map (λ u. u) (upTo (a .threads))))
+    → b ≡ all (λ t. standsBy (queued (a .queue)) (queued (a .waits)) (nibble (a .slots .states) t) t) (upTo (a .threads))
+answers k b g =
+    let c = k .before in
+    let a = c .before .before .args in
+    let f : ℕ → Bool = λ t. standsBy (queued (a .queue)) (queued (a .waits)) (nibble (a .slots .states) t) t in
+    g f (λ u h. says (queued (a .queue)) (queued (a .waits)) (c .before .tally .result) (c .tally2 .result) (c .before .tally .ensures) (c .tally2 .ensures) (nibble (a .slots .states) u) u (omega arith))
     ∙ ap (all f) (map-id (upTo (a .threads)))
 
-cast-times-2 : tie.Need-cast-times-2 Inv-loop μ-loop
-cast-times-2 c = search needs
+returns : tie.Need-returns Inv-loop μ-loop
+returns c =
+    let k = c .before .before .before .before in
+    let a = k .before .before .before .args in
+    let r = c .before .in-queue in
+    answers k false (λ f e.
+    failed f (λ u. u) (a .threads) (k .loop .t) (omega arith) (k .loop .inv .1 f e)
+    (sym (e (k .loop .t) (omega arith)) ∙ (rw (← c .before .before .nibble-at .ensures, ← r .ensures, ne-eqb (entryOf (k .before .before .tally .result) (k .loop .t)) (r .result) (c .if1 .taken)))))
 
-times-requires-2 : tie.Need-times-requires-2 Inv-loop μ-loop
-times-requires-2 c κs = search needs
+array-read-if2 : tie.Need-array-read-if2 Inv-loop μ-loop
+array-read-if2 c = search needs
 
 in-waits-requires : tie.Need-in-waits-requires Inv-loop μ-loop
 in-waits-requires c κs = search needs
 
+-- where a thread stands in the queue as it should, the waits are left to ask
+rests : (c : tie.After-in-waits Inv-loop μ-loop)
+    → let k = c .before .before .before .before .before in
+    let o = k .before in
+    standsIn (o .before .tally .result) (o .tally2 .result) (nibble (o .before .before .args .slots .states) (k .loop .t)) (k .loop .t)
+    ≡ eqb (entryOf (o .tally2 .result) (k .loop .t)) (c .in-waits .result)
+rests c =
+    let i = c .before in
+    let k = i .before .before .before .before in
+    let r = i .before .in-queue in
+    rw (← i .before .before .nibble-at .ensures, ← r .ensures, ← c .in-waits .ensures, eq-eqb (entryOf (k .before .before .tally .result) (k .loop .t)) (r .result) (i .if1 .left))
+
 returns-2 : tie.Need-returns-2 Inv-loop μ-loop
 returns-2 c =
-    let i = c .before .before .before in
-    let k = i .before .before .before .before .before in
-    let a = k .before .args in
-    let f = stands (a .queue) (a .waits) (a .t2) in
-    let n = i .before .before .times in
-    let r = i .before .in-queue in
-    let m = c .before .before .times2 in
-    let w = c .before .in-waits in
-    failed f (λ u. u) (a .threads) (k .loop .t) (omega arith) (k .loop .inv .1)
-    (rw (← n .ensures, ← r .ensures, ← m .ensures, ← w .ensures, eq-eqb (n .result) (r .result) (i .if1 .left), ne-eqb (m .result) (w .result) (c .if2 .taken)))
-    ∙ ap (all f) (map-id (upTo (a .threads)))
+    let k = c .before .before .before .before .before .before in
+    let a = k .before .before .before .args in
+    answers k false (λ f e.
+    failed f (λ u. u) (a .threads) (k .loop .t) (omega arith) (k .loop .inv .1 f e)
+    (sym (e (k .loop .t) (omega arith)) ∙ rests (c .before) ∙ ne-eqb (entryOf (k .before .tally2 .result) (k .loop .t)) (c .before .in-waits .result) (c .if2 .taken)))
 
 add-t : tie.Need-add-t Inv-loop μ-loop
 add-t c = search needs
@@ -85,24 +110,18 @@ loop-less c = search needs
 
 loop-again : tie.Need-loop-again Inv-loop μ-loop
 loop-again c =
-    let i = c .before .before .before in
-    let k = i .before .before .before .before .before in
-    let a = k .before .args in
-    let n = i .before .before .times in
-    let r = i .before .in-queue in
-    let m = c .before .before .times2 in
-    let w = c .before .in-waits in (
+    let k = c .before .before .before .before .before .before in
+    let a = k .before .before .before .args in (
       omega arith,
-      passed (stands (a .queue) (a .waits) (a .t2)) (λ u. u) (a .threads) (k .loop .t) (omega arith) (k .loop .inv .1)
-          (rw (← n .ensures, ← r .ensures, ← m .ensures, ← w .ensures, eq-eqb (n .result) (r .result) (i .if1 .left), eq-eqb (m .result) (w .result) (c .if2 .left))),
+      λ f e.
+          passed f (λ u. u) (a .threads) (k .loop .t) (omega arith) (k .loop .inv .1 f e)
+          (sym (e (k .loop .t) (omega arith)) ∙ rests (c .before) ∙ eq-eqb (entryOf (k .before .tally2 .result) (k .loop .t)) (c .before .in-waits .result) (c .if2 .left)),
     )
 
 returns-3 : tie.Need-returns-3 Inv-loop μ-loop
 returns-3 c =
     let k = c .before in
-    let a = k .before .args in
-    let f = stands (a .queue) (a .waits) (a .t2) in
-    all-passed f (λ u. u) (a .threads) (k .loop .t) (omega arith) (k .loop .inv .1) ∙ ap (all f) (map-id (upTo (a .threads)))
+    answers k true (λ f e. all-passed f (λ u. u) (k .before .before .before .args .threads) (k .loop .t) (omega arith) (k .loop .inv .1 f e))
 
 pub stand-once-spec : {M : Type 1} → statement M
 stand-once-spec =
@@ -110,15 +129,15 @@ stand-once-spec =
     (tie.spec
     Inv-loop
     μ-loop
+    tally-requires
+    tally-requires-2
     loop-holds
-    mul-s
-    array-copy-out-s
-    cast-times
-    times-requires
+    cast-nibble-at
+    nibble-at-requires
+    array-read-if1
     in-queue-requires
     returns
-    cast-times-2
-    times-requires-2
+    array-read-if2
     in-waits-requires
     returns-2
     add-t

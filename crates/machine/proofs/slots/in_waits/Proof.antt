@@ -1,13 +1,13 @@
--- `in_waits` meets its contract: a slot whose state is 3 or above stands for a waiting thread.
-use Rattle.machine.proofs.Conditions.{waits-waiting, waits-other}
+-- `in_waits` meets its contract: a test of the number.
+use borrow.Author.Tests.{le-leb, lt-leb}
 use Rattle.machine.proofs.slots.in_waits.Statement.{statement}
 use Rattle.machine.proofs.slots.in_waits.Tie as tie
 
 returns : tie.Need-returns
-returns c = waits-waiting (c .before .before .args .slot) (c .if1 .taken)
+returns c = rw (le-leb 3 (c .before .args .state) (c .if1 .taken))
 
 returns-2 : tie.Need-returns-2
-returns-2 c = waits-other (c .before .before .args .slot) (c .if1 .left)
+returns-2 c = rw (lt-leb 3 (c .before .args .state) (c .if1 .left))
 
 pub in-waits-spec : {M : Type 1} → statement M
 in-waits-spec = tie.close (tie.spec returns returns-2)

@@ -1,41 +1,42 @@
 -- `walk` meets its contract. The loop's invariant: no rule is broken yet, from the state and record reached the run goes on to where it ends,
 -- and no sleeper wakes before the tick number that is kept. Each way through the loop is one of the cases that the machine's laws name.
 use mathlib.Core.Path.{_≡_, refl, ap, sym, subst, _∙_}
-use mathlib.Core.Logic.{_⊎_, ⊎-elim}
+use mathlib.Core.Logic.{_⊎_, inl, inr, _≢_, ⊎-elim}
 use mathlib.Core.Bool.{true, cond, _&&_}
 use mathlib.Core.List.{List}
 use Prim.Native.Nat.{ℕ, _-_, _≤_, _<_}
 use native.Mathlib.Omega.{arith}
 use borrow.Author.Needs.{needs}
+use borrow.Author.Tests.{eq-eqb, ne-eqb}
 use lib.Dec.{T, eqb, ltb, eqb→eq, ltb→lt}
 use lib.ListN.{length, length-set}
 use Rattle.model.specs.Records as records
 use Rattle.model.specs.Records.{call, report}
-use Rattle.model.proofs.Tests.{from-true, and-left, and-right}
+use Rattle.model.proofs.Tests.{from-true, and-left, and-right, equal?}
 use Rattle.plan.specs.declared.Plan.{Plan}
 use Rattle.machine.specs.declared.calls.Called.{Called}
 use Rattle.machine.specs.declared.Machine.{Machine}
 use Rattle.machine.specs.declared.reports.Report.{Report}
 use Rattle.machine.specs.declared.reports.Reports.{Reports}
-use Rattle.machine.specs.declared.slots.Slot.{Slot}
+use Rattle.machine.specs.declared.slots.Slots.{Slots}
 use Rattle.machine.specs.Lists.{reportOf}
 use Rattle.machine.specs.View.{conditionsOf}
 use Rattle.machine.specs.Contracts.{told, passed, soonest}
 use Rattle.machine.specs.Steps as machine
 use Rattle.machine.specs.Steps.{Steps, Settles, stateOf}
-use Rattle.machine.proofs.Laws.{Told, Passes, Quiet, told-told, passed-passes, known-quiet, due-size, called-size, due-fits, create-asked, caller-asked, take-asked, give-asked, tick-asked, tick-passes}
+use Rattle.machine.proofs.Laws.{Told, Passes, Quiet, told-told, passed-passes, soonest-quiet, due-size, called-size, due-fits, create-asked, caller-asked, take-asked, give-asked, tick-asked, tick-passes}
 use Rattle.dump.specs.Layout.{recordOf}
 use Rattle.dump.specs.Questions.{operandFits}
 use Rattle.dump.proofs.Laws.{entryAt}
 use Rattle.monitor.specs.Contracts.{Walks, WalkEnds}
 use Rattle.monitor.proofs.Walking.{Walking, walk-begins, walk-ends, walk-reads, walk-record, walk-steps, walk-breaks, walk-moves}
-use Rattle.monitor.proofs.Turns.{due-breaks, due-given, Made, by-call, by-report, turn-breaks, turn-settles, turn-switched, turn-unswitched}
+use Rattle.monitor.proofs.Turns.{due-breaks, due-given, Made, by-call, by-report, turn-breaks, turn-settles, turn-quiet, turn-switched, turn-unswitched}
 use Rattle.monitor.proofs.walk.walk.Statement.{statement}
 use Rattle.monitor.proofs.walk.walk.Tie as tie
 
 abbrev Inv-loop : tie.InvT-loop
 Inv-loop ceilings chosen bytes n c₀ given₀ who₀ quiet₀ rule₀ i₀ c given who quiet rule i =
-    (rule ≡ 0) × (length (c .reports) ≡ 17) × Quiet (c .machine .plan .threads) (c .machine .slots) quiet × Walking (stateOf c₀ given₀) bytes (stateOf c given) who i
+    (rule ≡ 0) × (length (c .reports) ≡ 17) × Quiet (c .machine .plan .threads) (c .machine .slots) (c .machine .wakes) quiet × Walking (stateOf c₀ given₀) bytes (stateOf c given) who i
 
 abbrev μ-loop : tie.MeasureT-loop
 μ-loop ceilings chosen bytes n c₀ given₀ who₀ quiet₀ rule₀ i₀ c given who quiet rule i = n - i
@@ -79,9 +80,9 @@ readable e = let l = e .before .before in walk-reads (walks (l .before)) (l .loo
 both : {a b c d : ℕ} → ltb a b && eqb c d ≡ true → (a < b) × (c ≡ d)
 both {a} {b} {c} {d} e = let t = from-true (ltb a b && eqb c d) e in (ltb→lt a b (and-left (ltb a b) (eqb c d) t), eqb→eq c d (and-right (ltb a b) (eqb c d) t))
 
--- where plan and slots are those that came, nobody wakes before the same tick number
-still : {p p' : Plan} {slots slots' : List Slot} {until : ℕ} → p' ≡ p → slots' ≡ slots → Quiet (p .threads) slots until → Quiet (p' .threads) slots' until
-still e f q = rw (e, f) q
+-- where plan and conditions are those that came, nobody wakes before the same tick number
+still : {p p' : Plan} {slots slots' : Slots} {wakes wakes' : List ℕ} {until : ℕ} → p' ≡ p → slots' ≡ slots → wakes' ≡ wakes → Quiet (p .threads) slots wakes until → Quiet (p' .threads) slots' wakes' until
+still e f g q = rw (e, f, g) q
 
 -- what the calls in place hand back, by its equation
 is-told : {x c : Called} {given : Report} → x ≡ told c given → Told x c given
@@ -90,8 +91,16 @@ is-told e = rw e (told-told _ _)
 is-passed : {x c : Called} → x ≡ passed c → Passes x c
 is-passed e = rw e (passed-passes _)
 
-kept-quiet : (m : Machine) (kind : ℕ) {until : ℕ} → until ≡ cond (eqb kind 7) (soonest (conditionsOf (m .plan .threads) (m .slots))) 0 → Quiet (m .plan .threads) (m .slots) until
-kept-quiet m kind e = rw e (known-quiet (m .plan .threads) (m .slots) (eqb kind 7))
+-- what a call leaves of the tick number before which nobody wakes
+kept-quiet : (m : Machine) (kind : ℕ) {until next : ℕ} → next ≡ cond (eqb kind 7) (soonest (conditionsOf (m .plan .threads) (m .slots) (m .wakes))) (cond (eqb kind 2) 0 until)
+    → (kind ≢ 2 → Quiet (m .plan .threads) (m .slots) (m .wakes) until)
+    → Quiet (m .plan .threads) (m .slots) (m .wakes) next
+kept-quiet m kind {until} e q = rw e (go (equal? kind 7) (equal? kind 2))
+  where
+    go : (kind ≡ 7) ⊎ (kind ≢ 7) → (kind ≡ 2) ⊎ (kind ≢ 2) → Quiet (m .plan .threads) (m .slots) (m .wakes) (cond (eqb kind 7) (soonest (conditionsOf (m .plan .threads) (m .slots) (m .wakes))) (cond (eqb kind 2) 0 until))
+    go (inl t) d = rw (eq-eqb kind 7 t) (soonest-quiet (m .plan .threads) (m .slots) (m .wakes))
+    go (inr t) (inl d) = rw (ne-eqb kind 7 t, eq-eqb kind 2 d) (record { asleep' = λ i n h k. omega arith })
+    go (inr t) (inr d) = rw (ne-eqb kind 7 t, ne-eqb kind 2 d) (q d)
 
 -- the first report due is in the array
 in-array : (c : tie.Then1 Inv-loop μ-loop) → c .before .before .before .loop .given < 17
@@ -250,7 +259,7 @@ loop-again c =
     (let t = is-told (w .4 .ensures) in (
       w .3 .left,
       ap (λ (rs : Reports). length (rs .items)) (t .reports') ∙ v .1,
-      still (t .plan') (t .slots') (v .2),
+      still (t .plan') (t .slots') (t .wakes') (v .2),
       walk-moves (walks (l .before)) (v .3) h (due-given (l .loop .c) (l .loop .given) (steps e) (w .0 .taken) (e .entry-at .result .kind) (e .entry-at .result .operand) (readable e) (is-record e) (w .2 .ensures) (w .3 .left) (w .4 .result) t) refl,
     )))
     (⊎-elim
@@ -260,7 +269,7 @@ loop-again c =
     let q = both (sym (w .3 .ensures) ∙ w .4 .taken) in (
       v .0,
       ap (λ (rs : Reports). length (rs .items)) (t .reports') ∙ v .1,
-      still (t .plan') (t .slots') (v .2),
+      still (t .plan') (t .slots') (t .wakes') (v .2),
       walk-moves (walks (l .before)) (v .3) h (tick-passes (l .loop .c) (l .loop .given) (steps e) (w .0 .left) (w .5 .result) t (is-tick (record { before = record { before = record { before = e; if1 = w .0 }; struct-known = w .1 }; if3 = w .2 })) (v .2) (q .0) (q .1)) refl,
     )))
     (⊎-elim
@@ -269,7 +278,7 @@ loop-again c =
     rw (w .12, w .13, w .14, w .15, w .16) (
       w .6 .left,
       length-set (m .match .c .reports) (m .match .c .count) _ ∙ made m .size,
-      kept-quiet (m .match .c .machine) (e .entry-at .result .kind) (w .8 .ensures),
+      kept-quiet (m .match .c .machine) (e .entry-at .result .kind) (w .8 .ensures) (λ d. turn-quiet (l .loop .c) (l .loop .given) (steps e) (w .0 .left) (made m) (w .6 .left) (e .entry-at .result .kind) (e .entry-at .result .operand) (l .loop .quiet) (is-record e) d (v .2)),
       walk-moves (walks (l .before)) (v .3) h (turn-switched (l .loop .c) (l .loop .given) (steps e) (w .0 .left) (made m) (w .6 .left) (w .9 .ensures) (w .11 .taken)) refl,
     ))
     (λ w.
@@ -277,7 +286,7 @@ loop-again c =
     rw (w .12, w .13, w .14, w .15, w .16) (
       w .6 .left,
       made m .size,
-      kept-quiet (m .match .c .machine) (e .entry-at .result .kind) (w .8 .ensures),
+      kept-quiet (m .match .c .machine) (e .entry-at .result .kind) (w .8 .ensures) (λ d. turn-quiet (l .loop .c) (l .loop .given) (steps e) (w .0 .left) (made m) (w .6 .left) (e .entry-at .result .kind) (e .entry-at .result .operand) (l .loop .quiet) (is-record e) d (v .2)),
       walk-moves (walks (l .before)) (v .3) h (turn-unswitched (l .loop .c) (l .loop .given) (steps e) (w .0 .left) (made m) (w .6 .left) (w .9 .ensures) (w .11 .left)) refl,
     ))))
     (c .if1 .came)

@@ -27,7 +27,7 @@ add-t7 c =
 
 -- the machine with this thread reported
 abbrev told : Machine → ℕ → Machine
-told m n = record { plan = m .plan; tick = m .tick; slots = m .slots; queue = m .queue; holds = m .holds; waits = m .waits; reported = n }
+told m n = record { plan = m .plan; tick = m .tick; slots = m .slots; wakes = m .wakes; queue = m .queue; holds = m .holds; waits = m .waits; reported = n }
 
 -- with one more report given it is what the model delivers
 delivers : (s : State) (r : Report) (n : ℕ) {m : Machine} → m ≡ told (s .machine) n → threadOf n ≡ switchedTo (threadOf (s .machine .reported)) (reportOf r)

@@ -1,0 +1,259 @@
+// Who holds which section, in order of taking.
+ghost use mathlib.Core.Path.{_≡_};
+ghost use mathlib.Core.Bool.{not, _&&_};
+ghost use mathlib.Core.List.{[], _∷_};
+ghost use mathlib.Core.Option.{Option·map};
+ghost use Prim.Native.Nat.{_≤_, _<_};
+ghost use lib.Dec.{eqb, ltb};
+ghost use Rattle.model.specs.Searches.{all, filter, firstGreatest};
+ghost use Rattle.model.specs.State as state;
+ghost use Rattle.model.specs.State.{hold, isHold};
+ghost use Rattle.model.specs.Calls.{heldByOthers};
+ghost use Rattle.model.specs.Rules.{holdsNone, holdsNot, lastTaken};
+ghost use Rattle.model.specs.Formed.{holdInRange, times, heldOnce};
+ghost use Rattle.lists.specs.Words.{inFront};
+ghost use Rattle.lists.specs.Lists.{numbered, held, ceilingIn};
+use crate::nibbles::tally;
+use crate::nibbles::with_nibble;
+
+// Sections and the threads that hold them, the latest in the lowest four bits; bits at `count` and above mean nothing.
+#[repr(C)]
+pub struct Holds {
+    pub sections: u64,
+    pub threads: u64,
+    pub count: usize,
+}
+
+// The word with one more number in front; the last of sixteen goes.
+fn in_front(word: u64, value: u8) -> u64
+    requires { ⌜ value < 16 ⌝ }
+    ensures { λ r. ⌜ r ≡ inFront word value ⌝ }
+{
+    let kept = word % 1152921504606846976;
+    kept * 16 + (value as u64)
+}
+
+impl Holds {
+    pub fn none() -> Holds
+        ensures { λ r. ⌜ held r ≡ [] ⌝ }
+    {
+        Holds {
+            sections: 0,
+            threads: 0,
+            count: 0,
+        }
+    }
+
+    // One more, taken last.
+    pub fn push(self, section: u8, thread: u8) -> Holds
+        requires { ⌜ (self .count < 16) × (section < 16) × (thread < 16) ⌝ }
+        ensures { λ r. ⌜ held r ≡ hold section thread ∷ held self ⌝ }
+    {
+        let sections = in_front(self.sections, section);
+        let threads = in_front(self.threads, thread);
+        Holds {
+            sections,
+            threads,
+            count: self.count + 1,
+        }
+    }
+
+    // The hold of this section by this thread ends; the others stay in their order. It is the latest hold of all in every run.
+    pub fn without(self, section: u8, thread: u8) -> Holds
+        requires { ⌜ (self .count ≤ 16) × (times (isHold section thread) (held self) ≤ 1) ⌝ }
+        ensures { λ r. ⌜ held r ≡ filter (λ h. not (isHold section thread h)) (held self) ⌝ }
+    {
+        let s = (self.sections % 16) as u8;
+        let t = (self.threads % 16) as u8;
+        if 0 < self.count {
+            if s == section && t == thread {
+                return Holds {
+                    sections: self.sections / 16,
+                    threads: self.threads / 16,
+                    count: self.count - 1,
+                };
+            }
+        }
+        self.others(section, thread)
+    }
+
+    // All but the hold of this section by this thread.
+    fn others(self, section: u8, thread: u8) -> Holds
+        requires { ⌜ self .count ≤ 16 ⌝ }
+        ensures { λ r. ⌜ held r ≡ filter (λ h. not (isHold section thread h)) (held self) ⌝ }
+    {
+        let mut ss = self.sections;
+        let mut ts = self.threads;
+        let mut left = self.count;
+        let mut sections: u64 = 0;
+        let mut threads: u64 = 0;
+        let mut n: usize = 0;
+        while 0 < left {
+            let s = (ss % 16) as u8;
+            let t = (ts % 16) as u8;
+            ss = ss / 16;
+            ts = ts / 16;
+            left -= 1;
+            if !(s == section && t == thread) {
+                sections = with_nibble(sections, n as u8, s);
+                threads = with_nibble(threads, n as u8, t);
+                n += 1;
+            }
+        }
+        Holds {
+            sections,
+            threads,
+            count: n,
+        }
+    }
+
+    // The thread holding the section of greatest ceiling, on a tie the one taken later; 255 if nothing is held.
+    pub fn owner(self, ceilings: &[u8; 16]) -> u8
+        requires { ⌜ self .count ≤ 16 ⌝ }
+        ensures { λ r. ⌜ r ≡ numbered (Option·map (λ (h : state.Hold). h .thread) (firstGreatest (ceilingIn (now (ceilings .entry))) (held self))) ⌝ }
+    {
+        let all = *ceilings;
+        let mut ss = self.sections;
+        let mut ts = self.threads;
+        let mut left = self.count;
+        let mut who: u8 = 255;
+        let mut top: u8 = 0;
+        while 0 < left {
+            let s = (ss % 16) as usize;
+            let t = (ts % 16) as u8;
+            ss = ss / 16;
+            ts = ts / 16;
+            left -= 1;
+            let c = all[s];
+            if who == 255 || top < c {
+                who = t;
+                top = c;
+            }
+        }
+        who
+    }
+
+    // Whether a base priority is above every ceiling held by others than this thread.
+    pub fn clear(self, ceilings: &[u8; 16], thread: u8, base: u8) -> bool
+        requires { ⌜ self .count ≤ 16 ⌝ }
+        ensures { λ r. ⌜ r ≡ all (λ h. ltb (ceilingIn (now (ceilings .entry)) h) base) (heldByOthers thread (held self)) ⌝ }
+    {
+        let all = *ceilings;
+        let mut ss = self.sections;
+        let mut ts = self.threads;
+        let mut left = self.count;
+        while 0 < left {
+            let s = (ss % 16) as usize;
+            let t = (ts % 16) as u8;
+            ss = ss / 16;
+            ts = ts / 16;
+            left -= 1;
+            if t != thread {
+                if base <= all[s] {
+                    return false;
+                }
+            }
+        }
+        true
+    }
+
+    // The section that a thread took last of those it still holds, 255 if it holds none.
+    pub fn last_taken(self, thread: u8) -> u8
+        requires { ⌜ self .count ≤ 16 ⌝ }
+        ensures { λ r. ⌜ r ≡ numbered (lastTaken (held self) thread) ⌝ }
+    {
+        let mut ss = self.sections;
+        let mut ts = self.threads;
+        let mut left = self.count;
+        while 0 < left {
+            let s = (ss % 16) as u8;
+            let t = (ts % 16) as u8;
+            ss = ss / 16;
+            ts = ts / 16;
+            left -= 1;
+            if t == thread {
+                return s;
+            }
+        }
+        255
+    }
+
+    // Whether a thread holds no section.
+    pub fn free(self, thread: u8) -> bool
+        requires { ⌜ self .count ≤ 16 ⌝ }
+        ensures { λ r. ⌜ r ≡ holdsNone (held self) thread ⌝ }
+    {
+        let mut ts = self.threads;
+        let mut left = self.count;
+        while 0 < left {
+            let t = (ts % 16) as u8;
+            ts = ts / 16;
+            left -= 1;
+            if t == thread {
+                return false;
+            }
+        }
+        true
+    }
+
+    // Whether a thread does not hold this section.
+    pub fn lacks(self, section: u8, thread: u8) -> bool
+        requires { ⌜ self .count ≤ 16 ⌝ }
+        ensures { λ r. ⌜ r ≡ holdsNot (held self) section thread ⌝ }
+    {
+        let mut ss = self.sections;
+        let mut ts = self.threads;
+        let mut left = self.count;
+        while 0 < left {
+            let s = (ss % 16) as u8;
+            let t = (ts % 16) as u8;
+            ss = ss / 16;
+            ts = ts / 16;
+            left -= 1;
+            if s == section && t == thread {
+                return false;
+            }
+        }
+        true
+    }
+
+    // Whether no section is held twice.
+    pub fn once(self, sections: usize) -> bool
+        requires { ⌜ (self .count ≤ 16) × (sections ≤ 16) ⌝ }
+        ensures { λ r. ⌜ r ≡ heldOnce sections (held self) ⌝ }
+    {
+        if self.count < 2 {
+            return true;
+        }
+        let found = tally(self.sections, self.count);
+        let mut s: usize = 0;
+        while s < sections {
+            if 1 < found[s] {
+                return false;
+            }
+            s += 1;
+        }
+        true
+    }
+
+    // Whether each hold is of a section and a thread of the plan.
+    pub fn in_range(self, threads: usize, sections: usize) -> bool
+        requires { ⌜ self .count ≤ 16 ⌝ }
+        ensures { λ r. ⌜ r ≡ all (holdInRange threads sections) (held self) ⌝ }
+    {
+        let mut ss = self.sections;
+        let mut ts = self.threads;
+        let mut left = self.count;
+        while 0 < left {
+            let s = (ss % 16) as usize;
+            let t = (ts % 16) as usize;
+            ss = ss / 16;
+            ts = ts / 16;
+            left -= 1;
+            if sections <= s || threads <= t {
+                return false;
+            }
+        }
+        true
+    }
+}

@@ -1,0 +1,4 @@
+// The machine's small lists: up to sixteen numbers below sixteen, packed in words, so that a list is copied and changed in registers.
+pub mod nibbles; // nibbles.rt: four bits of a word, read and set
+pub mod queue; // queue.rt: threads in order, the ready queue and the waits
+pub mod holds; // holds.rt: who holds which section

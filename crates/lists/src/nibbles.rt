@@ -1,0 +1,47 @@
+// Sixteen numbers in a word, four bits each; the first stands in the lowest four.
+ghost use mathlib.Core.Path.{_≡_};
+ghost use mathlib.Core.List.{map};
+ghost use Prim.Native.Nat.{_≤_, _<_};
+ghost use lib.Dec.{eqb};
+ghost use Rattle.model.specs.Searches.{upTo};
+ghost use Rattle.model.specs.Formed.{times};
+ghost use Rattle.lists.specs.Words.{nibble, withNibble, nibbles};
+
+// The number at a place.
+pub fn nibble_at(word: u64, place: u8) -> u8
+    requires { ⌜ place < 16 ⌝ }
+    ensures { λ r. ⌜ r ≡ nibble word place ⌝ }
+{
+    let by = 4 * (place as u64);
+    let rest = word >> by;
+    (rest % 16) as u8
+}
+
+// The word with another number at a place.
+pub fn with_nibble(word: u64, place: u8, value: u8) -> u64
+    requires { ⌜ (place < 16) × (value < 16) ⌝ }
+    ensures { λ r. ⌜ r ≡ withNibble word place value ⌝ }
+{
+    let by = 4 * (place as u64);
+    let old = (word >> by) % 16;
+    let new = value as u64;
+    word - (old << by) + (new << by)
+}
+
+// How often each number stands among the first ones of a word.
+pub fn tally(word: u64, count: usize) -> [u8; 16]
+    requires { ⌜ count ≤ 16 ⌝ }
+    ensures { λ r. ⌜ r ≡ map (λ k. times (λ u. eqb u k) (nibbles count word)) (upTo 16) ⌝ }
+{
+    let mut found = [0u8; 16];
+    let mut rest = word;
+    let mut left = count;
+    while 0 < left {
+        let k = (rest % 16) as usize;
+        rest = rest / 16;
+        left -= 1;
+        let n = found[k];
+        found[k] = n + 1;
+    }
+    found
+}

@@ -1,0 +1,36 @@
+-- `judged` meets its contract: a report is heard, and a call is walked over with the ceilings and the chosen thread of the state.
+use borrow.Author.Needs.{needs}
+use Rattle.plan.proofs.Laws.{valid-fits}
+use Rattle.machine.proofs.Laws.{formed-facts, asks-chosen}
+use Rattle.monitor.proofs.Hearing.{judges, asked-with}
+use Rattle.monitor.proofs.live.judged.Statement.{statement}
+use Rattle.monitor.proofs.live.judged.Tie as tie
+
+hear-requires : tie.Need-hear-requires
+hear-requires c κs = (c .before .pre, c .if1 .taken)
+
+returns : tie.Need-returns
+returns c = search needs
+
+ceilings-requires : tie.Need-ceilings-requires
+ceilings-requires c κs = let b = c .before .before .before in valid-fits _ (formed-facts (b .args .state) (b .pre .steps .formed) .valid)
+
+chosen-requires : tie.Need-chosen-requires
+chosen-requires c κs =
+    let b = c .before .before .before .before .before in
+    asks-chosen (b .args .state) (c .before .ceilings .result) (b .pre .steps .formed) (c .before .ceilings .ensures)
+
+step-requires : tie.Need-step-requires
+step-requires c κs =
+    let w = c .before in
+    let r = w .before .before in
+    let b = r .before .before .before .before in
+    asked-with (b .args .state) (b .args .kind) (b .args .operand) (b .pre) (r .ceilings .ensures) (w .chosen .ensures)
+
+returns-2 : tie.Need-returns-2
+returns-2 c = judges (c .before .step .ensures)
+
+pub judged-spec : {M : Type 1} → statement M
+judged-spec =
+    tie.close
+    (tie.spec hear-requires returns ceilings-requires chosen-requires step-requires returns-2)
