@@ -61,7 +61,7 @@ extern "C" {
 #endif
 
 /* A plan's numbers. 64 bytes. */
-struct Plan {
+struct beltcairn_plan {
     size_t threads;     /* offset  0: T, 1 to 16 */
     size_t sections;    /* offset  8: S, 0 to 16 */
     uint8_t bases[16];  /* offset 16: the base priorities, the first T in use */
@@ -72,70 +72,70 @@ struct Plan {
  * Entries that are not in use mean nothing, whatever they have. */
 
 /* The conditions of the threads. 16 bytes. */
-struct Slots {
+struct beltcairn_slots {
     uint64_t states; /* offset 0: a word; entry t is 0 if thread t is dormant, 1 ready, 2 asleep, 3 waiting; the first T in use */
     uint64_t wants;  /* offset 8: a word; entry t is the section that thread t waits for; in use where it waits */
 };
 
 /* Threads in order. 16 bytes. */
-struct Queue {
+struct beltcairn_queue {
     uint64_t items; /* offset 0: a word; the first `count` in use */
     size_t count;   /* offset 8: at most 16 */
 };
 
 /* Sections and the threads that hold them, the latest taken first. 24 bytes. */
-struct Holds {
+struct beltcairn_holds {
     uint64_t sections; /* offset  0: a word; the first `count` in use */
     uint64_t threads;  /* offset  8: a word; entry i is the thread that holds the section of entry i above */
     size_t count;      /* offset 16: at most 16 */
 };
 
 /* A report. 2 bytes. */
-struct Report {
+struct beltcairn_report {
     uint8_t kind; /* offset 0: 16 to 20 */
     uint8_t who;  /* offset 1: the thread that it names, 255 for nobody */
 };
 
 /* Reports in order. 48 bytes. */
-struct Reports {
-    struct Report items[17]; /* offset  0: the first `count` in use */
-    size_t count;            /* offset 40 */
+struct beltcairn_reports {
+    struct beltcairn_report items[17]; /* offset  0: the first `count` in use */
+    size_t count;                      /* offset 40 */
 };
 
 /* What the machine remembers, but for the reports due. 216 bytes. */
-struct Machine {
-    struct Plan plan;   /* offset   0 */
-    uint32_t tick;      /* offset  64: the tick number, Tick records so far */
-    struct Slots slots; /* offset  72 */
-    uint32_t wakes[16]; /* offset  88: the tick number that each sleeper waits for; in use where a thread is asleep */
-    struct Queue queue; /* offset 152: the line, the ready threads in order of arrival */
-    struct Holds holds; /* offset 168 */
-    struct Queue waits; /* offset 192: the waiting threads in order of their Take */
-    uint8_t reported;   /* offset 208: the thread of the latest Switch given, 255 for nobody */
+struct beltcairn_machine {
+    struct beltcairn_plan plan;   /* offset   0 */
+    uint32_t tick;                /* offset  64: the tick number, Tick records so far */
+    struct beltcairn_slots slots; /* offset  72 */
+    uint32_t wakes[16];           /* offset  88: the tick number that each sleeper waits for; in use where a thread is asleep */
+    struct beltcairn_queue queue; /* offset 152: the line, the ready threads in order of arrival */
+    struct beltcairn_holds holds; /* offset 168 */
+    struct beltcairn_queue waits; /* offset 192: the waiting threads in order of their Take */
+    uint8_t reported;             /* offset 208: the thread of the latest Switch given, 255 for nobody */
 };
 
 /* The machine and its reports. 272 bytes. */
-struct State {
-    struct Machine machine; /* offset   0 */
-    struct Reports due;     /* offset 216: the reports of the latest call, in order */
-    size_t given;           /* offset 264: how many of them were given; those behind are due */
+struct beltcairn_state {
+    struct beltcairn_machine machine; /* offset   0 */
+    struct beltcairn_reports due;     /* offset 216: the reports of the latest call, in order */
+    size_t given;                     /* offset 264: how many of them were given; those behind are due */
 };
 
 /* The watch state. 280 bytes, aligned to 8. It holds no pointer, so it can be copied and kept. The bytes between its fields mean nothing:
  * compare states field by field, as far as their entries are in use. */
-struct Watch {
-    struct State state; /* offset   0 */
-    uint8_t rule;       /* offset 272: the rule of a breach that is stored, 0 if there is none */
+struct beltcairn_watch {
+    struct beltcairn_state state; /* offset   0 */
+    uint8_t rule;                 /* offset 272: the rule of a breach that is stored, 0 if there is none */
 };
 
-BELTCAIRN_ASSERT(sizeof(struct Plan) == 64);
-BELTCAIRN_ASSERT(sizeof(struct Slots) == 16);
-BELTCAIRN_ASSERT(sizeof(struct Queue) == 16);
-BELTCAIRN_ASSERT(sizeof(struct Holds) == 24);
-BELTCAIRN_ASSERT(sizeof(struct Reports) == 48);
-BELTCAIRN_ASSERT(sizeof(struct Machine) == 216);
-BELTCAIRN_ASSERT(sizeof(struct State) == 272);
-BELTCAIRN_ASSERT(sizeof(struct Watch) == 280);
+BELTCAIRN_ASSERT(sizeof(struct beltcairn_plan) == 64);
+BELTCAIRN_ASSERT(sizeof(struct beltcairn_slots) == 16);
+BELTCAIRN_ASSERT(sizeof(struct beltcairn_queue) == 16);
+BELTCAIRN_ASSERT(sizeof(struct beltcairn_holds) == 24);
+BELTCAIRN_ASSERT(sizeof(struct beltcairn_reports) == 48);
+BELTCAIRN_ASSERT(sizeof(struct beltcairn_machine) == 216);
+BELTCAIRN_ASSERT(sizeof(struct beltcairn_state) == 272);
+BELTCAIRN_ASSERT(sizeof(struct beltcairn_watch) == 280);
 
 /*
  * The whole check of a plan and a dump.
@@ -158,7 +158,7 @@ uint8_t beltcairn_bench(const uint8_t *plan, size_t plan_len, const uint8_t *lis
  * 0: made; what *watch had is of no account, but it is read, so it has to be initialised (zeroes will do).
  * 1 to 4: refused; *watch keeps what it had.
  */
-uint8_t beltcairn_begin(const uint8_t *plan, size_t plan_len, struct Watch *watch);
+uint8_t beltcairn_begin(const uint8_t *plan, size_t plan_len, struct beltcairn_watch *watch);
 
 /*
  * Advances a watch state by one record. Any state may be lent, also one that beltcairn_begin did not make.
@@ -167,7 +167,7 @@ uint8_t beltcairn_begin(const uint8_t *plan, size_t plan_len, struct Watch *watc
  * 21 to 30: that rule is broken, by this record or, if the state has a breach stored, by an earlier one; *due keeps what it had. A new breach
  * changes nothing in *watch but `rule`.
  */
-uint8_t beltcairn_step(struct Watch *watch, uint8_t kind, uint16_t operand, uint64_t *due);
+uint8_t beltcairn_step(struct beltcairn_watch *watch, uint8_t kind, uint16_t operand, uint64_t *due);
 
 #undef BELTCAIRN_ASSERT
 

@@ -40,14 +40,14 @@ static int filled(const uint8_t *bytes, size_t from, size_t to)
     return from == to;
 }
 
-static int same_lists(const struct Machine *a, const struct Machine *b)
+static int same_lists(const struct beltcairn_machine *a, const struct beltcairn_machine *b)
 {
     return a->queue.items == b->queue.items && a->queue.count == b->queue.count && a->holds.sections == b->holds.sections &&
            a->holds.threads == b->holds.threads && a->holds.count == b->holds.count && a->waits.items == b->waits.items &&
            a->waits.count == b->waits.count;
 }
 
-static int same_machine(const struct Machine *a, const struct Machine *b)
+static int same_machine(const struct beltcairn_machine *a, const struct beltcairn_machine *b)
 {
     return a->plan.threads == b->plan.threads && a->plan.sections == b->plan.sections &&
            memcmp(a->plan.bases, b->plan.bases, 16) == 0 && memcmp(a->plan.needs, b->plan.needs, 32) == 0 && a->tick == b->tick &&
@@ -55,7 +55,7 @@ static int same_machine(const struct Machine *a, const struct Machine *b)
            same_lists(a, b) && a->reported == b->reported;
 }
 
-int same(const struct Watch *a, const struct Watch *b)
+int same(const struct beltcairn_watch *a, const struct beltcairn_watch *b)
 {
     return same_machine(&a->state.machine, &b->state.machine) && memcmp(a->state.due.items, b->state.due.items, 34) == 0 &&
            a->state.due.count == b->state.due.count && a->state.given == b->state.given && a->rule == b->rule;
@@ -75,7 +75,7 @@ static void check_whole(const struct Run *run)
 /* The same verdict from live steps: clean up to the record that breaks the rule; the breach is stored, and answered from then on. */
 static void check_steps(const struct Run *run)
 {
-    struct Watch watch, before;
+    struct beltcairn_watch watch, before;
     uint64_t due = KEPT;
     memset(&watch, 0, sizeof watch);
     EXPECT(run->name, beltcairn_begin(run->plan, run->plan_len, &watch) == 0);
@@ -130,7 +130,7 @@ static void check_run(const struct Run *run)
 static void refused_plan(uint8_t answer, const uint8_t *plan, size_t plan_len)
 {
     static const uint8_t empty[2] = {0, 0};
-    struct Watch watch, before;
+    struct beltcairn_watch watch, before;
     uint8_t out[64];
     uint64_t at = KEPT, due = KEPT, records = KEPT;
     memset(&watch, FILL, sizeof watch);

@@ -13,7 +13,7 @@ enum { KEPT = 4711 };
 void expect(int holds, const char *name, const char *what, const char *file, int line);
 
 /* Whether two watch states have the same content, field by field, since the bytes between fields mean nothing. */
-int same(const struct Watch *a, const struct Watch *b);
+int same(const struct beltcairn_watch *a, const struct beltcairn_watch *b);
 
 /* layout.c: sizes, offsets, the states that the library makes, and states made here and lent to it. */
 void check_layout(void);

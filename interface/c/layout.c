@@ -7,22 +7,22 @@
 enum { DORMANT, IS_READY, ASLEEP, WAITING };
 enum { NOBODY = 255 };
 
-#define SIZE(type, size) EXPECT("size", sizeof(struct type) == (size))
-#define AT(type, field, offset) EXPECT("offset", offsetof(struct type, field) == (offset))
+#define SIZE(type, size) EXPECT("size", sizeof(struct beltcairn_##type) == (size))
+#define AT(type, field, offset) EXPECT("offset", offsetof(struct beltcairn_##type, field) == (offset))
 
 static void sizes_and_offsets(void)
 {
-    SIZE(Plan, 64), AT(Plan, threads, 0), AT(Plan, sections, 8), AT(Plan, bases, 16), AT(Plan, needs, 32);
-    SIZE(Slots, 16), AT(Slots, states, 0), AT(Slots, wants, 8);
-    SIZE(Queue, 16), AT(Queue, items, 0), AT(Queue, count, 8);
-    SIZE(Holds, 24), AT(Holds, sections, 0), AT(Holds, threads, 8), AT(Holds, count, 16);
-    SIZE(Report, 2), AT(Report, kind, 0), AT(Report, who, 1);
-    SIZE(Reports, 48), AT(Reports, items, 0), AT(Reports, count, 40);
-    SIZE(Machine, 216), AT(Machine, plan, 0), AT(Machine, tick, 64), AT(Machine, slots, 72), AT(Machine, wakes, 88);
-    AT(Machine, queue, 152), AT(Machine, holds, 168), AT(Machine, waits, 192), AT(Machine, reported, 208);
-    SIZE(State, 272), AT(State, machine, 0), AT(State, due, 216), AT(State, given, 264);
-    SIZE(Watch, 280), AT(Watch, state, 0), AT(Watch, rule, 272);
-    EXPECT("alignment", _Alignof(struct Watch) == 8);
+    SIZE(plan, 64), AT(plan, threads, 0), AT(plan, sections, 8), AT(plan, bases, 16), AT(plan, needs, 32);
+    SIZE(slots, 16), AT(slots, states, 0), AT(slots, wants, 8);
+    SIZE(queue, 16), AT(queue, items, 0), AT(queue, count, 8);
+    SIZE(holds, 24), AT(holds, sections, 0), AT(holds, threads, 8), AT(holds, count, 16);
+    SIZE(report, 2), AT(report, kind, 0), AT(report, who, 1);
+    SIZE(reports, 48), AT(reports, items, 0), AT(reports, count, 40);
+    SIZE(machine, 216), AT(machine, plan, 0), AT(machine, tick, 64), AT(machine, slots, 72), AT(machine, wakes, 88);
+    AT(machine, queue, 152), AT(machine, holds, 168), AT(machine, waits, 192), AT(machine, reported, 208);
+    SIZE(state, 272), AT(state, machine, 0), AT(state, due, 216), AT(state, given, 264);
+    SIZE(watch, 280), AT(watch, state, 0), AT(watch, rule, 272);
+    EXPECT("alignment", _Alignof(struct beltcairn_watch) == 8);
 }
 
 /* Entry i of a word. */
@@ -32,7 +32,7 @@ static uint64_t entry(uint64_t word, size_t i)
 }
 
 /* One line of threads: their number, and the first three as a word. */
-static int lists(const struct Queue *queue, size_t count, uint64_t named)
+static int lists(const struct beltcairn_queue *queue, size_t count, uint64_t named)
 {
     int as_named = queue->count == count;
     for (size_t i = 0; i < count && i < 3; i++) {
@@ -42,37 +42,37 @@ static int lists(const struct Queue *queue, size_t count, uint64_t named)
 }
 
 /* Hold i, from 0 for the latest. */
-static int holds(const struct Holds *holds, size_t i, uint8_t section, uint8_t thread)
+static int holds(const struct beltcairn_holds *holds, size_t i, uint8_t section, uint8_t thread)
 {
     return i < holds->count && entry(holds->sections, i) == section && entry(holds->threads, i) == thread;
 }
 
-static int owes(const struct State *state, size_t i, uint8_t kind, uint8_t who)
+static int owes(const struct beltcairn_state *state, size_t i, uint8_t kind, uint8_t who)
 {
-    const struct Report *report = &state->due.items[state->given + i];
+    const struct beltcairn_report *report = &state->due.items[state->given + i];
     return state->given + i < state->due.count && report->kind == kind && report->who == who;
 }
 
-static int is_in(const struct Machine *m, size_t thread, uint8_t state)
+static int is_in(const struct beltcairn_machine *m, size_t thread, uint8_t state)
 {
     return entry(m->slots.states, thread) == state;
 }
 
-static int sleeps_until(const struct Machine *m, size_t thread, uint32_t tick)
+static int sleeps_until(const struct beltcairn_machine *m, size_t thread, uint32_t tick)
 {
     return is_in(m, thread, ASLEEP) && m->wakes[thread] == tick;
 }
 
-static int waits_for(const struct Machine *m, size_t thread, uint8_t section)
+static int waits_for(const struct beltcairn_machine *m, size_t thread, uint8_t section)
 {
     return is_in(m, thread, WAITING) && entry(m->slots.wants, thread) == section;
 }
 
 /* The watch state of 16 threads and 16 sections: thread i has priority i + 1 and needs section i. */
-static struct Watch largest(void)
+static struct beltcairn_watch largest(void)
 {
     uint8_t plan[50] = {16, 16};
-    struct Watch watch;
+    struct beltcairn_watch watch;
     memset(&watch, 0xaa, sizeof watch);
     for (int i = 0; i < 16; i++) {
         plan[2 + i] = (uint8_t)(i + 1);
@@ -84,8 +84,8 @@ static struct Watch largest(void)
 
 static void largest_plan(void)
 {
-    const struct Watch watch = largest();
-    const struct Machine *m = &watch.state.machine;
+    const struct beltcairn_watch watch = largest();
+    const struct beltcairn_machine *m = &watch.state.machine;
     EXPECT("largest plan", m->plan.threads == 16 && m->plan.sections == 16);
     for (int i = 0; i < 16; i++) {
         EXPECT("largest plan", m->plan.bases[i] == i + 1 && m->plan.needs[i] == 1 << i && is_in(m, (size_t)i, DORMANT));
@@ -94,7 +94,7 @@ static void largest_plan(void)
     EXPECT("largest plan", watch.state.due.count == 0 && watch.state.given == 0 && watch.rule == 0);
 }
 
-static void step(struct Watch *watch, uint8_t kind, uint16_t operand, uint64_t due)
+static void step(struct beltcairn_watch *watch, uint8_t kind, uint16_t operand, uint64_t due)
 {
     uint64_t told = KEPT;
     EXPECT("step", beltcairn_step(watch, kind, operand, &told) == 0);
@@ -104,8 +104,8 @@ static void step(struct Watch *watch, uint8_t kind, uint16_t operand, uint64_t d
 /* Sixteen threads start, each more urgent than those before it: every entry of the line is in use. */
 static void all_threads_in_the_line(void)
 {
-    struct Watch watch = largest();
-    const struct Machine *m = &watch.state.machine;
+    struct beltcairn_watch watch = largest();
+    const struct beltcairn_machine *m = &watch.state.machine;
     for (uint16_t i = 0; i < 16; i++) {
         step(&watch, CREATE, i, 2), step(&watch, READY, i, 1), step(&watch, SWITCH, i, 0);
     }
@@ -118,8 +118,8 @@ static void all_threads_in_the_line(void)
 static void all_sections_held(void)
 {
     static const uint8_t plan[5] = {1, 16, 1, 0xff, 0xff};
-    struct Watch watch;
-    const struct Holds *held = &watch.state.machine.holds;
+    struct beltcairn_watch watch;
+    const struct beltcairn_holds *held = &watch.state.machine.holds;
     memset(&watch, 0, sizeof watch);
     EXPECT("all sections", beltcairn_begin(plan, sizeof plan, &watch) == 0);
     step(&watch, CREATE, 0, 2), step(&watch, READY, 0, 1), step(&watch, SWITCH, 0, 0);
@@ -135,8 +135,8 @@ static void all_sections_held(void)
 static void states_of_run_a(void)
 {
     static const uint8_t plan[11] = {3, 1, 1, 2, 3, 1, 0, 0, 0, 1, 0};
-    struct Watch watch;
-    const struct Machine *m = &watch.state.machine;
+    struct beltcairn_watch watch;
+    const struct beltcairn_machine *m = &watch.state.machine;
     memset(&watch, 0, sizeof watch);
     EXPECT("run A", beltcairn_begin(plan, sizeof plan, &watch) == 0);
     EXPECT("run A", m->plan.threads == 3 && m->plan.sections == 1 && memcmp(m->plan.bases, plan + 2, 3) == 0);
@@ -159,8 +159,8 @@ static void states_of_run_a(void)
 static void states_of_one_thread(void)
 {
     static const uint8_t plan[5] = {1, 2, 1, 3, 0};
-    struct Watch watch;
-    const struct Machine *m = &watch.state.machine;
+    struct beltcairn_watch watch;
+    const struct beltcairn_machine *m = &watch.state.machine;
     uint64_t due = KEPT;
     memset(&watch, 0, sizeof watch);
     EXPECT("one thread", beltcairn_begin(plan, sizeof plan, &watch) == 0);
@@ -176,10 +176,10 @@ static void states_of_one_thread(void)
 }
 
 /* A state made here: thread 0 runs and holds the section that thread 2 waits for, thread 1 sleeps until tick number 9, and it is 7. */
-static struct Watch made(void)
+static struct beltcairn_watch made(void)
 {
-    struct Watch watch;
-    struct Machine *m = &watch.state.machine;
+    struct beltcairn_watch watch;
+    struct beltcairn_machine *m = &watch.state.machine;
     memset(&watch, 0, sizeof watch);
     m->plan.threads = 3;
     m->plan.sections = 1;
@@ -196,10 +196,10 @@ static struct Watch made(void)
 }
 
 /* `made` with this number in every entry of a word that is not in use, and this tick number with every thread that is not asleep. */
-static struct Watch made_with_unused(uint64_t number, uint32_t tick)
+static struct beltcairn_watch made_with_unused(uint64_t number, uint32_t tick)
 {
-    struct Watch watch = made();
-    struct Machine *m = &watch.state.machine;
+    struct beltcairn_watch watch = made();
+    struct beltcairn_machine *m = &watch.state.machine;
     const uint64_t filled = number * 0x1111111111111111u, behind_first = filled << 4;
     m->slots.states |= filled << 12;
     m->slots.wants |= filled << 12 | (filled & 0xff); /* but for thread 2, which waits */
@@ -214,9 +214,9 @@ static struct Watch made_with_unused(uint64_t number, uint32_t tick)
 }
 
 /* Two Ticks wake thread 1, and a Give hands the section to thread 2. */
-static void clean_lent_state(struct Watch watch)
+static void clean_lent_state(struct beltcairn_watch watch)
 {
-    const struct Machine *m = &watch.state.machine;
+    const struct beltcairn_machine *m = &watch.state.machine;
     step(&watch, TICK, 0, 0);
     EXPECT("lent", m->tick == 8 && sleeps_until(m, 1, 9) && lists(&m->queue, 1, 0x0));
     step(&watch, TICK, 0, 1);
@@ -236,9 +236,9 @@ static void clean_lent_states(void)
     }
 }
 
-static void refused_step(struct Watch watch, uint8_t answer, uint8_t kind, uint16_t operand)
+static void refused_step(struct beltcairn_watch watch, uint8_t answer, uint8_t kind, uint16_t operand)
 {
-    struct Watch before = watch;
+    struct beltcairn_watch before = watch;
     uint64_t due = KEPT;
     EXPECT("refused step", beltcairn_step(&watch, kind, operand, &due) == answer);
     EXPECT("refused step", due == KEPT && same(&watch, &before));
@@ -247,7 +247,7 @@ static void refused_step(struct Watch watch, uint8_t answer, uint8_t kind, uint1
 /* The parts of 12, each of a state that differs from `made` in that alone; 12 is asked before 7. */
 static void ill_formed_states(void)
 {
-    struct Watch watch;
+    struct beltcairn_watch watch;
 #define ILL(change) watch = made(), change, refused_step(watch, 12, TICK, 0), refused_step(watch, 12, 0, 0)
     ILL(watch.state.machine.plan.threads = 0);
     ILL(watch.state.machine.plan.threads = 17);
@@ -285,7 +285,7 @@ static void ill_formed_states(void)
 
 static void refused_steps(void)
 {
-    struct Watch watch = made();
+    struct beltcairn_watch watch = made();
     uint64_t due = KEPT;
     refused_step(watch, 7, 0, 0);
     refused_step(watch, 7, 21, 0);

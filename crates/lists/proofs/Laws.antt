@@ -17,6 +17,8 @@ pub use Rattle.lists.proofs.Words.{read-set, read-other}
 pub use Rattle.lists.proofs.Queues.{first, ended}
 -- a loop that keeps the first of greatest value: it gives way to one of greater value among those left
 pub use Rattle.lists.proofs.Queues.{overtaken, replaced, stayed, nobody}
+-- a loop over holds that asks whether any passes; all pass where none fails
+pub use Rattle.lists.proofs.Holdings.{all-none, AnyLeft, missed, found, none-found}
 -- those that pass a test, of a list with one more at its end
 pub use Rattle.lists.proofs.Queues.{filter-kept, filter-dropped}
 

@@ -225,7 +225,8 @@ impl Holds {
         if self.count < 2 {
             return true;
         }
-        let found = tally(self.sections, self.count);
+        let mut found = [0u8; 16];
+        tally(self.sections, self.count, &mut found);
         let mut s: usize = 0;
         while s < sections {
             if 1 < found[s] {

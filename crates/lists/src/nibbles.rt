@@ -3,6 +3,7 @@ ghost use mathlib.Core.Path.{_≡_};
 ghost use mathlib.Core.List.{map};
 ghost use Prim.Native.Nat.{_≤_, _<_};
 ghost use lib.Dec.{eqb};
+ghost use lib.ListN.{replicate};
 ghost use Rattle.model.specs.Searches.{upTo};
 ghost use Rattle.model.specs.Formed.{times};
 ghost use Rattle.lists.specs.Words.{nibble, withNibble, nibbles};
@@ -28,12 +29,11 @@ pub fn with_nibble(word: u64, place: u8, value: u8) -> u64
     word - (old << by) + (new << by)
 }
 
-// How often each number stands among the first ones of a word.
-pub fn tally(word: u64, count: usize) -> [u8; 16]
-    requires { ⌜ count ≤ 16 ⌝ }
-    ensures { λ r. ⌜ r ≡ map (λ k. times (λ u. eqb u k) (nibbles count word)) (upTo 16) ⌝ }
+// How often each number stands among the first ones of a word, counted in a table that is lent, so that it is copied nowhere.
+pub fn tally(word: u64, count: usize, found: &mut [u8])
+    requires { ⌜ (count ≤ 16) × (now found ≡ replicate 16 0) ⌝ }
+    ensures { λ _. ⌜ now (found .exit) ≡ map (λ k. times (λ u. eqb u k) (nibbles count word)) (upTo 16) ⌝ }
 {
-    let mut found = [0u8; 16];
     let mut rest = word;
     let mut left = count;
     while 0 < left {
@@ -43,5 +43,4 @@ pub fn tally(word: u64, count: usize) -> [u8; 16]
         let n = found[k];
         found[k] = n + 1;
     }
-    found
 }

@@ -1,9 +1,9 @@
 -- Laws of the search for the heir: the one kept so far, or the first of greatest base among the waits left if that is greater, is the heir.
 use mathlib.Core.Path.{_≡_, ap, sym, _∙_}
 use mathlib.Core.Bool.{Bool, not}
-use mathlib.Core.List.{List, List·Memᴰ as Mem, List·Memᴰ·head as here, List·Memᴰ·tail as there}
+use mathlib.Core.List.{List}
 use mathlib.Core.Option.{Option, some}
-use Prim.Native.Nat.{ℕ, zero, suc, _-_, _/_, _%_, _≤_, _<_}
+use Prim.Native.Nat.{ℕ, _-_, _/_, _%_, _≤_, _<_}
 use native.Mathlib.Omega.{arith}
 use borrow.Author.Tests.{ne-eqb}
 use lib.Dec.{ltb}
@@ -12,8 +12,7 @@ use Rattle.model.specs.State as state
 use Rattle.model.proofs.Searches.{greatest-is}
 use Rattle.lists.specs.Words.{nibbles}
 use Rattle.lists.specs.Lists.{numbered, ceilingIn}
-use Rattle.lists.proofs.Queues.{first, ended, overtaken, replaced, stayed}
-use Rattle.lists.proofs.Holdings.{all-none}
+use Rattle.lists.proofs.Laws.{first, ended, overtaken, replaced, stayed, all-none, nibbles-small}
 use Rattle.machine.specs.Lists.{threadOf}
 use Rattle.machine.specs.Contracts.{inheritsIn}
 use Rattle.machine.proofs.Views.{threadOf-numbered}
@@ -21,12 +20,6 @@ use Rattle.machine.proofs.Views.{threadOf-numbered}
 -- the hold's ceiling bars a thread of this base
 abbrev pub bars : (ceilings : List ℕ) (base : ℕ) → state.Hold → Bool
 bars ceilings b h = not (ltb (ceilingIn ceilings h) b)
-
--- the numbers packed in a word are below sixteen
-nibbles-below : (n w : ℕ) {t : ℕ} → Mem t (nibbles n w) → t < 16
-nibbles-below zero w m = elim m [ ]
-nibbles-below (suc n) w (here e) = omega arith
-nibbles-below (suc n) w (there m) = nibbles-below n (w / 16) m
 
 -- the waits, as a count and a word
 module _ (base : ℕ → ℕ) (ceilings : List ℕ) (hs : List state.Hold) (count items : ℕ) where
@@ -61,7 +54,7 @@ module _ (base : ℕ → ℕ) (ceilings : List ℕ) (hs : List state.Hold) (coun
 
     -- at the end of the walk none is left
     pub found-heir : left ≤ 0 → HeirLeft who free top left rest → (who ≡ numbered heir) × (free ≡ inheritsIn base ceilings hs heir)
-    found-heir k inv = (is, inv .1 ∙ ap (inheritsIn base ceilings hs) (ap threadOf is ∙ threadOf-numbered heir (λ t e. omega (arith, nibbles-below count items (greatest-is base (nibbles count items) t e .0)))))
+    found-heir k inv = (is, inv .1 ∙ ap (inheritsIn base ceilings hs) (ap threadOf is ∙ threadOf-numbered heir (λ t e. omega (arith, nibbles-small count items t (greatest-is base (nibbles count items) t e .0)))))
       where
         is : who ≡ numbered heir
         is = rw (ended left rest k) at (inv .0)

@@ -3,7 +3,6 @@ use mathlib.Core.Path.{_≡_, refl, ap, _∙_}
 use mathlib.Core.Logic.{_⊎_, inl, inr}
 use mathlib.Core.Bool.{Bool, true, not, _&&_}
 use mathlib.Core.List.{List, [], _∷_, tail, List·Memᴰ as Mem, List·Memᴰ·head as here, List·Memᴰ·tail as there}
-use mathlib.Core.Option.{some}
 use Prim.Native.Nat.{ℕ, zero, suc, _+_, _-_, _≤_, _<_}
 use native.Mathlib.Numerals.{add-one}
 use native.Mathlib.Omega.{arith}
@@ -14,7 +13,6 @@ use Rattle.model.specs.Plan.{threads, validPlan}
 use Rattle.model.specs.Priorities.{chosen}
 use Rattle.model.specs.Formed.{numbersInRange, heldOnce, allStandOnce, dueInRange, formed}
 use Rattle.model.proofs.Tests.{split, and-left, and-both}
-use Rattle.model.proofs.Nesting.{chosen-is}
 use Rattle.model.proofs.Formed.{well-formed}
 use Rattle.plan.proofs.Loops.{listed}
 use Rattle.plan.proofs.Laws.{threads-view}
@@ -26,7 +24,6 @@ use Rattle.machine.specs.Contracts.{Formed}
 use Rattle.machine.specs.Steps.{IsReport}
 use Rattle.machine.proofs.Facts.{facts}
 use Rattle.machine.proofs.Views.{length-owed, sized}
-use Rattle.machine.proofs.Room.{queued-known}
 use Rattle.machine.proofs.ReportKinds.{is-report}
 
 -- one more is given: the first is due no longer
@@ -72,8 +69,6 @@ module _ (s : State) (passes : T (formed (planOf (s .machine)) (view s))) where
       record { passes = and-both rest (dueInRange p []) (and-left rest (dueInRange p (view s .due)) passes) none }
 
   -- a chosen thread is one of the plan's
-  pub chosen-known : (x : ℕ) → chosen (planOf (s .machine)) (view s) ≡ some x → x < 16
-  chosen-known x e = omega (arith, queued-known (facts unowed) x (chosen-is (planOf (s .machine)) (view s) x e .0), facts unowed .fits .threads)
 
   -- each report due is of one of document 01's kinds
   pub due-known : (i : ℕ) → s .given ≤ i → i < s .due .count → IsReport (getD (s .due .items) i noReport)

@@ -12,7 +12,7 @@ use Rattle.model.specs.Searches.{filter, upTo, without}
 use Rattle.model.specs.Plan.{base, ceiling}
 use Rattle.model.specs.State.{ready, Hold, hold, isHold, condition}
 use Rattle.model.specs.Priorities.{heldCeiling}
-use Rattle.model.specs.Calls.{sleepsUntil, sleepers, aboveAll, heldByOthers, wanted}
+use Rattle.model.specs.Calls.{sleepsUntil, sleepers, aboveAll, heldByOthers}
 use Rattle.model.specs.Formed.{times}
 use Rattle.model.proofs.Tests.{and-both, eq-test, ne-test, equal?}
 use Rattle.model.proofs.Searches.{all-at, any-fails, filtered, in-filter, Pairwise, pairwise-filter, pairwise-append, pairwise-at, Distinct, stayed, distinct-without, upTo-distinct, pigeonhole}
@@ -59,9 +59,6 @@ module _ {m : Machine} (f : Facts m) where
 
   pub waiting-room : (w : ℕ) → Mem w (queued (m .waits)) → m .queue .count < 16
   waiting-room w i = queue-room w (waiting-known w i) (λ e. omega (arith, ap tag (sym e ∙ f .agree .waiting' w i .1)))
-
-  pub wanted-small : (w : ℕ) → Mem w (queued (m .waits)) → wanted (condition (idle m) w) < 16
-  wanted-small w i = let r = f .agree .waiting' w i in rw (r .1) (omega (arith, f .wants w (r .0) (r .1), f .fits .sections))
 
   -- the sleepers of a tick number are not in the queue, which therefore has room for all of them
   pub woken-room : (n : ℕ) → length (queued (m .queue)) + length (sleepers n (idle m)) ≤ 16

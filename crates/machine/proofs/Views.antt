@@ -83,16 +83,8 @@ pub threadOf-numbered : (o : Option ℕ) → ((t : ℕ) → o ≡ some t → t <
 threadOf-numbered none h = refl
 threadOf-numbered (some t) h = let k = h t refl in rw (ne-eqb t 255 (λ e. omega arith))
 
--- numbers are equal where threads are the same: asked of a thread, and of any number
+-- numbers are equal where threads are the same
 
 pub number-is : (o : Option ℕ) (t : ℕ) → t ≢ 255 → eqb (numbered o) t ≡ same o (some t)
 number-is none t d = ne-eqb 255 t (λ e. d (sym e))
 number-is (some u) t d = refl
-
-pub number-same : (o : Option ℕ) (n : ℕ) → ((t : ℕ) → o ≡ some t → t < 255) → eqb (numbered o) n ≡ same o (threadOf n)
-number-same o n h = go (equal? n 255) o h
-  where
-    go : (n ≡ 255) ⊎ (n ≢ 255) → (o : Option ℕ) → ((t : ℕ) → o ≡ some t → t < 255) → eqb (numbered o) n ≡ same o (threadOf n)
-    go (inl e) none k = rw e
-    go (inl e) (some t) k = let b = k t refl in rw (e, ne-eqb t 255 (λ q. omega arith))
-    go (inr d) o k = rw (ne-eqb n 255 d) (number-is o n d)

@@ -24,8 +24,10 @@ fn stand_once(threads: usize, slots: Slots, queue: Queue, waits: Queue) -> bool
     requires { ⌜ (threads ≤ 16) × (queue .count ≤ 16) × (waits .count ≤ 16) ⌝ }
     ensures { λ r. ⌜ r ≡ all (λ t. standsBy (queued queue) (queued waits) (nibble (slots .states) t) t) (upTo threads) ⌝ }
 {
-    let lined = tally(queue.items, queue.count);
-    let waiting = tally(waits.items, waits.count);
+    let mut lined = [0u8; 16];
+    tally(queue.items, queue.count, &mut lined);
+    let mut waiting = [0u8; 16];
+    tally(waits.items, waits.count, &mut waiting);
     let mut t: usize = 0;
     while t < threads {
         let state = nibble_at(slots.states, t as u8);

@@ -120,36 +120,24 @@ fn judged(state: State, kind: u8, operand: u16) -> Judged
 pub fn live(watch: Watch, kind: u8, operand: u16) -> Told
     ensures { λ r. ⌜ Tells r watch kind operand ⌝ }
 {
-    let q = refused(watch, kind, operand);
-    if q != 0 {
-        return Told {
-            watch,
-            reply: Reply::Refused(q),
-        };
+    let no = refused(watch, kind, operand);
+    let mut w = watch;
+    let mut reply = Reply::Refused(no);
+    if no == 0 {
+        if watch.rule != 0 {
+            reply = Reply::Broken(watch.rule);
+        } else {
+            let s = watch.state;
+            let o = judged(s, kind, operand);
+            if o.rule != 0 {
+                w.rule = o.rule;
+                reply = Reply::Broken(o.rule);
+            } else {
+                let after = o.state;
+                w.state = after;
+                reply = Reply::Clean(after.due_count());
+            }
+        }
     }
-    if watch.rule != 0 {
-        return Told {
-            watch,
-            reply: Reply::Broken(watch.rule),
-        };
-    }
-    let s = watch.state;
-    let o = judged(s, kind, operand);
-    if o.rule != 0 {
-        return Told {
-            watch: Watch {
-                state: s,
-                rule: o.rule,
-            },
-            reply: Reply::Broken(o.rule),
-        };
-    }
-    let after = o.state;
-    Told {
-        watch: Watch {
-            state: after,
-            rule: watch.rule,
-        },
-        reply: Reply::Clean(after.due_count()),
-    }
+    Told { watch: w, reply }
 }

@@ -1,6 +1,6 @@
 -- `tally` meets its contract: what each place of the table counts, and how often its number is left, is how often it stands in the word.
-use mathlib.Core.Path.{_≡_, refl, sym, _∙_}
-use mathlib.Core.List.{map}
+use mathlib.Core.Path.{_≡_, ap, sym, _∙_}
+use mathlib.Core.List.{List, map}
 use Prim.Native.Nat.{ℕ, _+_, _-_, _/_, _%_, _<_}
 use native.Mathlib.Omega.{arith}
 use borrow.Author.Needs.{needs}
@@ -23,36 +23,41 @@ abbrev μ-loop : tie.MeasureT-loop
 μ-loop word count found₀ rest₀ left₀ found rest left = left
 
 loop-holds : tie.Need-loop-holds Inv-loop μ-loop
-loop-holds c = (refl, λ t k. omega (arith, getD-replicate {A = ℕ} 16 t 0 0 k))
+loop-holds c =
+    let e = c .pre .1 in
+    (ap length e, λ t k. omega (arith, ap (λ (l : List ℕ). entryOf l t) e, getD-replicate {A = ℕ} 16 t 0 0 k))
 
 sub-left : tie.Need-sub-left Inv-loop μ-loop
 sub-left c = search needs
 
-array-read-n : tie.Need-array-read-n Inv-loop μ-loop
-array-read-n c = search needs
+slice-read-n : tie.Need-slice-read-n Inv-loop μ-loop
+slice-read-n c = search needs
 
 add-found : tie.Need-add-found Inv-loop μ-loop
 add-found c =
-    let l = c .before .loop in
-    let a = c .before .before .args in
+    let l = c .before .before .loop in
+    let a = c .before .before .before .args in
     let t = l .rest % 16 in
     omega (arith, l .inv .1 t (omega arith), times-within (λ u. eqb u t) (a .count) (a .word))
 
-array-write-found : tie.Need-array-write-found Inv-loop μ-loop
-array-write-found c = search needs
+slice-write-found : tie.Need-slice-write-found Inv-loop μ-loop
+slice-write-found c = search needs
 
 loop-less : tie.Need-loop-less Inv-loop μ-loop
 loop-less c = search needs
 
 loop-again : tie.Need-loop-again Inv-loop μ-loop
 loop-again c =
-    let l = c .before .loop in
+    let l = c .before .before .loop in
     let k = l .rest % 16 in (
       length-set (l .found) k (entryOf (l .found) k + 1) ∙ l .inv .0,
       λ t h.
           counted (l .found) (nibbles (l .left - 1) (l .rest / 16)) k t (omega arith)
           ∙ (rw (first (l .left) (l .rest) (omega arith)) at (l .inv .1 t h)),
     )
+
+same-length : tie.Need-same-length Inv-loop μ-loop
+same-length c = c .before .loop .inv .0 ∙ sym (ap length (c .before .before .pre .1))
 
 returns : tie.Need-returns Inv-loop μ-loop
 returns c =
@@ -72,9 +77,10 @@ tally-spec =
     μ-loop
     loop-holds
     sub-left
-    array-read-n
+    slice-read-n
     add-found
-    array-write-found
+    slice-write-found
     loop-less
     loop-again
+    same-length
     returns)

@@ -33,14 +33,20 @@ Inv-loop threads slots lined waiting t₀ t =
 abbrev μ-loop : tie.MeasureT-loop
 μ-loop threads slots lined waiting t₀ t = threads - t
 
+slice-aggregate-tally : tie.Need-slice-aggregate-tally Inv-loop μ-loop
+slice-aggregate-tally c = search needs
+
 tally-requires : tie.Need-tally-requires Inv-loop μ-loop
 tally-requires c κs = search needs
+
+slice-aggregate-tally-2 : tie.Need-slice-aggregate-tally-2 Inv-loop μ-loop
+slice-aggregate-tally-2 c = search needs
 
 tally-requires-2 : tie.Need-tally-requires-2 Inv-loop μ-loop
 tally-requires-2 c κs = search needs
 
 loop-holds : tie.Need-loop-holds Inv-loop μ-loop
-loop-holds c = (omega arith, λ f e. all-begin f (λ u. u) (c .before .before .args .threads))
+loop-holds c = (omega arith, λ f e. all-begin f (λ u. u) (c .before .before .before .before .before .before .args .threads))
 
 cast-nibble-at : tie.Need-cast-nibble-at Inv-loop μ-loop
 cast-nibble-at c = search needs
@@ -54,27 +60,39 @@ array-read-if1 c = search needs
 in-queue-requires : tie.Need-in-queue-requires Inv-loop μ-loop
 in-queue-requires c κs = search needs
 
+-- the two tables, as they stand at the head of the loop, and the start
+module _ (k : tie.At-loop Inv-loop μ-loop) where
+  abbrev first : tie.After-tally Inv-loop μ-loop
+  first = k .before .before .before .before .before
+
+  abbrev start : tie.Start Inv-loop μ-loop
+  start = first .before .before
+
+  abbrev lined : List ℕ
+  lined = first .tally .last .1 .1 .0
+
+  abbrev waiting : List ℕ
+  waiting = k .before .before .tally2 .last .1 .1 .0
+
 -- the standing in the queue and the waits is such a test
 answers : (k : tie.At-loop Inv-loop μ-loop) (b : Bool)
-    → let c = k .before in
-    let a = c .before .before .args in
-    ((f : ℕ → Bool) → ((u : ℕ) → u < a .threads → standsIn (c .before .tally .result) (c .tally2 .result) (nibble (a .slots .states) u) u ≡ f u) → b ≡ all f (map (λ u. u) (upTo (a .threads))))
+    → let a = start k .args in
+    ((f : ℕ → Bool) → ((u : ℕ) → u < a .threads → standsIn (lined k) (waiting k) (nibble (a .slots .states) u) u ≡ f u) → b ≡ all f (map (λ u. u) (upTo (a .threads))))
     → b ≡ all (λ t. standsBy (queued (a .queue)) (queued (a .waits)) (nibble (a .slots .states) t) t) (upTo (a .threads))
 answers k b g =
-    let c = k .before in
-    let a = c .before .before .args in
+    let a = start k .args in
     let f : ℕ → Bool = λ t. standsBy (queued (a .queue)) (queued (a .waits)) (nibble (a .slots .states) t) t in
-    g f (λ u h. says (queued (a .queue)) (queued (a .waits)) (c .before .tally .result) (c .tally2 .result) (c .before .tally .ensures) (c .tally2 .ensures) (nibble (a .slots .states) u) u (omega arith))
+    g f (λ u h. says (queued (a .queue)) (queued (a .waits)) (lined k) (waiting k) (first k .tally .ensures) (k .before .before .tally2 .ensures) (nibble (a .slots .states) u) u (omega (arith, start k .pre .0)))
     ∙ ap (all f) (map-id (upTo (a .threads)))
 
 returns : tie.Need-returns Inv-loop μ-loop
 returns c =
     let k = c .before .before .before .before in
-    let a = k .before .before .before .args in
+    let a = start k .args in
     let r = c .before .in-queue in
     answers k false (λ f e.
     failed f (λ u. u) (a .threads) (k .loop .t) (omega arith) (k .loop .inv .1 f e)
-    (sym (e (k .loop .t) (omega arith)) ∙ (rw (← c .before .before .nibble-at .ensures, ← r .ensures, ne-eqb (entryOf (k .before .before .tally .result) (k .loop .t)) (r .result) (c .if1 .taken)))))
+    (sym (e (k .loop .t) (omega arith)) ∙ (rw (← c .before .before .nibble-at .ensures, ← r .ensures, ne-eqb (entryOf (lined k) (k .loop .t)) (r .result) (c .if1 .taken)))))
 
 array-read-if2 : tie.Need-array-read-if2 Inv-loop μ-loop
 array-read-if2 c = search needs
@@ -85,22 +103,20 @@ in-waits-requires c κs = search needs
 -- where a thread stands in the queue as it should, the waits are left to ask
 rests : (c : tie.After-in-waits Inv-loop μ-loop)
     → let k = c .before .before .before .before .before in
-    let o = k .before in
-    standsIn (o .before .tally .result) (o .tally2 .result) (nibble (o .before .before .args .slots .states) (k .loop .t)) (k .loop .t)
-    ≡ eqb (entryOf (o .tally2 .result) (k .loop .t)) (c .in-waits .result)
+    standsIn (lined k) (waiting k) (nibble (start k .args .slots .states) (k .loop .t)) (k .loop .t) ≡ eqb (entryOf (waiting k) (k .loop .t)) (c .in-waits .result)
 rests c =
     let i = c .before in
     let k = i .before .before .before .before in
     let r = i .before .in-queue in
-    rw (← i .before .before .nibble-at .ensures, ← r .ensures, ← c .in-waits .ensures, eq-eqb (entryOf (k .before .before .tally .result) (k .loop .t)) (r .result) (i .if1 .left))
+    rw (← i .before .before .nibble-at .ensures, ← r .ensures, ← c .in-waits .ensures, eq-eqb (entryOf (lined k) (k .loop .t)) (r .result) (i .if1 .left))
 
 returns-2 : tie.Need-returns-2 Inv-loop μ-loop
 returns-2 c =
     let k = c .before .before .before .before .before .before in
-    let a = k .before .before .before .args in
+    let a = start k .args in
     answers k false (λ f e.
     failed f (λ u. u) (a .threads) (k .loop .t) (omega arith) (k .loop .inv .1 f e)
-    (sym (e (k .loop .t) (omega arith)) ∙ rests (c .before) ∙ ne-eqb (entryOf (k .before .tally2 .result) (k .loop .t)) (c .before .in-waits .result) (c .if2 .taken)))
+    (sym (e (k .loop .t) (omega arith)) ∙ rests (c .before) ∙ ne-eqb (entryOf (waiting k) (k .loop .t)) (c .before .in-waits .result) (c .if2 .taken)))
 
 add-t : tie.Need-add-t Inv-loop μ-loop
 add-t c = search needs
@@ -111,17 +127,17 @@ loop-less c = search needs
 loop-again : tie.Need-loop-again Inv-loop μ-loop
 loop-again c =
     let k = c .before .before .before .before .before .before in
-    let a = k .before .before .before .args in (
+    let a = start k .args in (
       omega arith,
       λ f e.
           passed f (λ u. u) (a .threads) (k .loop .t) (omega arith) (k .loop .inv .1 f e)
-          (sym (e (k .loop .t) (omega arith)) ∙ rests (c .before) ∙ eq-eqb (entryOf (k .before .tally2 .result) (k .loop .t)) (c .before .in-waits .result) (c .if2 .left)),
+          (sym (e (k .loop .t) (omega arith)) ∙ rests (c .before) ∙ eq-eqb (entryOf (waiting k) (k .loop .t)) (c .before .in-waits .result) (c .if2 .left)),
     )
 
 returns-3 : tie.Need-returns-3 Inv-loop μ-loop
 returns-3 c =
     let k = c .before in
-    answers k true (λ f e. all-passed f (λ u. u) (k .before .before .before .args .threads) (k .loop .t) (omega arith) (k .loop .inv .1 f e))
+    answers k true (λ f e. all-passed f (λ u. u) (start k .args .threads) (k .loop .t) (omega arith) (k .loop .inv .1 f e))
 
 pub stand-once-spec : {M : Type 1} → statement M
 stand-once-spec =
@@ -129,7 +145,9 @@ stand-once-spec =
     (tie.spec
     Inv-loop
     μ-loop
+    slice-aggregate-tally
     tally-requires
+    slice-aggregate-tally-2
     tally-requires-2
     loop-holds
     cast-nibble-at

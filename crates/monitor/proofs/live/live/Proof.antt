@@ -11,8 +11,8 @@ use Rattle.monitor.proofs.Lending.{Passed, refusal-zero, passed, steps-
 use Rattle.monitor.proofs.live.live.Statement.{statement}
 use Rattle.monitor.proofs.live.live.Tie as tie
 
-accepted : (c : tie.Else1) → (let a = c .before .before .args in refusal (seen (a .watch)) (a .kind) (a .operand) ≡ none)
-accepted c = let a = c .before .before .args in refusal-zero (a .watch) (a .kind) (a .operand) (sym (c .before .refused .ensures) ∙ c .if1 .left)
+accepted : (c : tie.Then1) → (let a = c .before .before .args in refusal (seen (a .watch)) (a .kind) (a .operand) ≡ none)
+accepted c = let a = c .before .before .args in refusal-zero (a .watch) (a .kind) (a .operand) (sym (c .before .refused .ensures) ∙ c .if1 .taken)
 
 passes : (c : tie.Else2) → (let a = c .before .before .before .before .args in Passed (a .watch) (a .kind) (a .operand))
 passes c = let a = c .before .before .before .before .args in passed (a .watch) (a .kind) (a .operand) (accepted (c .before .before))
@@ -20,49 +20,42 @@ passes c = let a = c .before .before .before .before .args in passed (a .watch) 
 refused-requires : tie.Need-refused-requires
 refused-requires c κs = search needs
 
-returns : tie.Need-returns
-returns c =
-    let a = c .before .before .args in
-    tells-refused (a .watch) (a .kind) (a .operand) (c .before .refused .ensures) (c .if1 .taken)
-
-returns-2 : tie.Need-returns-2
-returns-2 c =
-    let e = c .before .before in
-    let a = e .before .before .args in
-    tells-stored (a .watch) (a .kind) (a .operand) (accepted e) (c .if2 .taken)
-
 judged-requires : tie.Need-judged-requires
 judged-requires c κs =
     let p = c .before in
     let s = p .before .before .before .before .args .watch .state in
     steps-over (passes p) refl (ap numbered (chosen-due (planOf (s .machine)) (s .machine) (view s .due)))
 
-returns-3 : tie.Need-returns-3
-returns-3 c =
+due-count-requires : tie.Need-due-count-requires
+due-count-requires c κs = search needs
+
+returns : tie.Need-returns
+returns c =
+    let e = c .before .before in
+    let a = e .before .before .args in
+    tells-stored (a .watch) (a .kind) (a .operand) (accepted e) (c .if2 .taken)
+
+returns-2 : tie.Need-returns-2
+returns-2 c =
     let w = c .before .before in
     let p = w .before .before in
     let a = p .before .before .before .before .args in
     tells-broken (a .watch) (a .kind) (a .operand) (accepted (p .before .before)) (p .if2 .left) (w .judged .ensures) (c .if3 .taken)
 
-due-count-requires : tie.Need-due-count-requires
-due-count-requires c κs = search needs
-
-returns-4 : tie.Need-returns-4
-returns-4 c =
+returns-3 : tie.Need-returns-3
+returns-3 c =
     let e = c .before .before in
     let w = e .before .before in
     let p = w .before .before in
     let a = p .before .before .before .before .args in
     tells-clean (a .watch) (a .kind) (a .operand) (accepted (p .before .before)) (p .if2 .left) (w .judged .ensures) (e .if3 .left) (c .due-count .ensures)
 
+returns-4 : tie.Need-returns-4
+returns-4 c =
+    let a = c .before .before .args in
+    tells-refused (a .watch) (a .kind) (a .operand) (c .before .refused .ensures) (c .if1 .left)
+
 pub live-spec : {M : Type 1} → statement M
 live-spec =
     tie.close
-    (tie.spec
-    refused-requires
-    returns
-    returns-2
-    judged-requires
-    returns-3
-    due-count-requires
-    returns-4)
+    (tie.spec refused-requires judged-requires due-count-requires returns returns-2 returns-3 returns-4)

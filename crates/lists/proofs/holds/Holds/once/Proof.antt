@@ -43,11 +43,14 @@ returns c =
     (all-pass (isOnce (held h)) (upTo (a .sections))
     (λ s. le-leb (times (isOfSection s) (held h)) 1 (omega (arith, times-bound (isOfSection s) (held h), held-length (h .count) (h .sections) (h .threads), c .if1 .taken))))
 
+slice-aggregate-tally : tie.Need-slice-aggregate-tally Inv-loop μ-loop
+slice-aggregate-tally c = search needs
+
 tally-requires : tie.Need-tally-requires Inv-loop μ-loop
 tally-requires c κs = search needs
 
 loop-holds : tie.Need-loop-holds Inv-loop μ-loop
-loop-holds c = (omega arith, λ f e. all-begin f (λ k. k) (c .before .before .before .args .sections))
+loop-holds c = (omega arith, λ f e. all-begin f (λ k. k) (c .before .before .before .before .before .args .sections))
 
 array-read-if2 : tie.Need-array-read-if2 Inv-loop μ-loop
 array-read-if2 c = search needs
@@ -56,11 +59,11 @@ returns-2 : tie.Need-returns-2 Inv-loop μ-loop
 returns-2 c =
     let l = c .before .before in
     let t = l .before in
-    let b = t .before .before .before in
+    let b = t .before .before .before .before .before in
     let n = b .args .sections in
     let f = isOnce (held (b .args .self)) in
-    let agrees : (k : ℕ) → k < n → f k ≡ leb (entryOf (t .tally .result) k) 1 = λ k h. counts (b .args .self) (t .tally .result) (t .tally .ensures) k (omega (arith, b .pre .1)) in
-    failed f (λ k. k) n (l .loop .s) (omega arith) (l .loop .inv .1 f agrees) (agrees (l .loop .s) (omega arith) ∙ lt-leb (entryOf (t .tally .result) (l .loop .s)) 1 (c .if2 .taken))
+    let agrees : (k : ℕ) → k < n → f k ≡ leb (entryOf (t .before .tally .last .1 .1 .0) k) 1 = λ k h. counts (b .args .self) (t .before .tally .last .1 .1 .0) (t .before .tally .ensures) k (omega (arith, b .pre .1)) in
+    failed f (λ k. k) n (l .loop .s) (omega arith) (l .loop .inv .1 f agrees) (agrees (l .loop .s) (omega arith) ∙ lt-leb (entryOf (t .before .tally .last .1 .1 .0) (l .loop .s)) 1 (c .if2 .taken))
     ∙ ap (all f) (map-id (upTo n))
 
 add-s : tie.Need-add-s Inv-loop μ-loop
@@ -73,17 +76,17 @@ loop-again : tie.Need-loop-again Inv-loop μ-loop
 loop-again c =
     let l = c .before .before in
     let t = l .before in
-    let n = t .before .before .before .args .sections in
-    (omega arith, λ f e. passed f (λ k. k) n (l .loop .s) (omega arith) (l .loop .inv .1 f e) (e (l .loop .s) (omega arith) ∙ le-leb (entryOf (t .tally .result) (l .loop .s)) 1 (c .if2 .left)))
+    let n = t .before .before .before .before .before .args .sections in
+    (omega arith, λ f e. passed f (λ k. k) n (l .loop .s) (omega arith) (l .loop .inv .1 f e) (e (l .loop .s) (omega arith) ∙ le-leb (entryOf (t .before .tally .last .1 .1 .0) (l .loop .s)) 1 (c .if2 .left)))
 
 returns-3 : tie.Need-returns-3 Inv-loop μ-loop
 returns-3 c =
     let l = c .before in
     let t = l .before in
-    let b = t .before .before .before in
+    let b = t .before .before .before .before .before in
     let n = b .args .sections in
     let f = isOnce (held (b .args .self)) in
-    all-passed f (λ k. k) n (l .loop .s) (omega arith) (l .loop .inv .1 f (λ k h. counts (b .args .self) (t .tally .result) (t .tally .ensures) k (omega (arith, b .pre .1))))
+    all-passed f (λ k. k) n (l .loop .s) (omega arith) (l .loop .inv .1 f (λ k h. counts (b .args .self) (t .before .tally .last .1 .1 .0) (t .before .tally .ensures) k (omega (arith, b .pre .1))))
     ∙ ap (all f) (map-id (upTo n))
 
 pub once-spec : {M : Type 1} → statement M
@@ -93,6 +96,7 @@ once-spec =
     Inv-loop
     μ-loop
     returns
+    slice-aggregate-tally
     tally-requires
     loop-holds
     array-read-if2
