@@ -20,16 +20,16 @@ pub struct Small {
 
 pub fn plans() -> Vec<Small> {
     vec![
-        small("1 thread, no section", plan(0, &[1], &[0]), [15, 17], [9, 10]),
+        small("1 thread, no section", plan(0, &[1], &[0]), [15, 18], [9, 10]),
         small("1 thread, 1 section", plan(1, &[1], &[1]), [13, 15], [8, 9]),
-        small("1 thread, 2 sections", plan(2, &[1], &[3]), [11, 13], [7, 8]),
+        small("1 thread, 2 sections", plan(2, &[1], &[3]), [11, 14], [7, 8]),
         small("2 equal threads, no section", plan(0, &[1, 1], &[0, 0]), [12, 14], [7, 8]),
-        small("2 equal threads, 1 section", plan(1, &[1, 1], &[1, 1]), [11, 13], [7, 8]),
+        small("2 equal threads, 1 section", plan(1, &[1, 1], &[1, 1]), [11, 14], [7, 8]),
         small("2 threads, 1 section", plan(1, &[1, 2], &[1, 1]), [12, 14], [8, 9]),
-        small("2 threads, 2 sections", plan(2, &[1, 2], &[3, 3]), [11, 12], [7, 8]),
-        small("2 threads, 1 of 2 sections shared", plan(2, &[1, 2], &[1, 3]), [11, 12], [7, 8]),
-        small("3 threads, 1 section", plan(1, &[1, 2, 3], &[1, 1, 1]), [10, 12], [7, 8]),
-        small("3 threads, 2 equal, 1 section", plan(1, &[1, 2, 2], &[1, 1, 1]), [10, 12], [7, 8]),
+        small("2 threads, 2 sections", plan(2, &[1, 2], &[3, 3]), [11, 13], [7, 8]),
+        small("2 threads, 1 of 2 sections shared", plan(2, &[1, 2], &[1, 3]), [11, 13], [7, 8]),
+        small("3 threads, 1 section", plan(1, &[1, 2, 3], &[1, 1, 1]), [10, 13], [7, 8]),
+        small("3 threads, 2 equal, 1 section", plan(1, &[1, 2, 2], &[1, 1, 1]), [10, 13], [7, 8]),
     ]
 }
 
