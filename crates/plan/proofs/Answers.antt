@@ -12,7 +12,7 @@ use Rattle.model.specs.Plan.{validPlan}
 use Rattle.model.specs.Rules.{Question, firstNo}
 use Rattle.model.proofs.Tests.{is-true, and-left, and-right}
 use Rattle.plan.specs.Bytes.{threadCount, sectionCount, between, inRange, isPriority, needsWithin, hasCounts, hasLength, hasPriorities, hasNeeds, questions, refusal, number, Whole}
-use Rattle.plan.proofs.Loops.{length-listed}
+use Rattle.plan.proofs.Loops.{and-true, length-listed}
 
 -- where the first No is none, every answer is Yes
 pub all-Yes : (qs : List Question) → firstNo qs ≡ none → T (all (λ q. q .answer) qs)
@@ -72,7 +72,3 @@ pub valid-listed : (threads sections : ℕ) (base need : ℕ → ℕ)
     ≡ inRange threads sections && all isPriority (map base (upTo threads)) && all (needsWithin sections) (map need (upTo threads))
 unfolding validPlan
 valid-listed n s f g = rw (length-listed f n, length-listed g n, is-true (eqb n n) (eqb-refl n), and-true (inRange n s))
-  where
-    and-true : (a : Bool) → a && true ≡ a
-    and-true true = refl
-    and-true false = refl

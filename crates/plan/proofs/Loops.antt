@@ -5,9 +5,11 @@ use mathlib.Core.List.{List, [], _∷_, _++_, map, append-assoc, append-nil}
 use Prim.Native.Nat.{ℕ, zero, suc, _+_, _-_, _≤_, _<_, max}
 use native.Mathlib.Numerals.{add-one}
 use native.Mathlib.Omega.{arith}
+use lib.Dec.{T}
 use lib.ListN.{length, getD, take, set, length-map, List·getD-eq-default}
 use lib.Seq.{take-suc-set, getD-take, length-take-le, ext-getD}
 use Rattle.model.specs.Searches.{all, filter, greatest, countFrom, upTo}
+use Rattle.model.proofs.Tests.{is-true, from-true, and-left, and-right, and-both}
 use Rattle.plan.specs.View.{inUse}
 
 -- the numbers from i on that are below n
@@ -24,6 +26,14 @@ module _ {ℓ} {R : Type ℓ} (h : List ℕ → R) (n : ℕ) where
 
   pub done : (i : ℕ) → n ≤ i → h (left i n) ≡ h []
   done i k = let z : n - i ≡ 0 = omega arith in ap (λ j. h (countFrom i j)) z
+
+pub and-true : (a : Bool) → a && true ≡ a
+and-true true = refl
+and-true false = refl
+
+and-false : (a : Bool) → a && false ≡ false
+and-false true = refl
+and-false false = refl
 
 -- a loop that asks whether all pass: whether all that are left pass is whether all pass
 module _ {A : Type 0} (f : A → Bool) (g : ℕ → A) (n : ℕ) where
@@ -45,6 +55,34 @@ module _ {A : Type 0} (f : A → Bool) (g : ℕ → A) (n : ℕ) where
 
   pub all-passed : (i : ℕ) → n ≤ i → AllLeft i → true ≡ all f (map g (upTo n))
   all-passed i k inv = sym (done (λ l. all f (map g l)) n i k) ∙ inv
+
+  -- the same loop without an early end: whether all so far passed, and all that are left. It begins with `all-begin`, at true.
+  abbrev pub AllPass : (i : ℕ) (pass : Bool) → Type 0
+  AllPass i pass = pass && all f (map g (left i n)) ≡ all f (map g (upTo n))
+
+  module _ (i : ℕ) (pass : Bool) (k : i < n) (inv : AllPass i pass) where
+    turned-on : pass && (f (g i) && all f (map g (left (i + 1) n))) ≡ all f (map g (upTo n))
+    turned-on = sym (turn (λ l. pass && all f (map g l)) n i k) ∙ inv
+
+    pub pass-kept : (next : Bool) → next ≡ pass → f (g i) ≡ true → AllPass (i + 1) next
+    pass-kept next q e = rw q (rw e at turned-on)
+
+    pub pass-lost : (next : Bool) → next ≡ false → f (g i) ≡ false → AllPass (i + 1) next
+    pass-lost next q e = rw q (sym (and-false pass) ∙ (rw e at turned-on))
+
+  pub all-asked : (i : ℕ) (pass : Bool) → n ≤ i → AllPass i pass → pass ≡ all f (map g (upTo n))
+  all-asked i pass k inv = sym (and-true pass) ∙ sym (done (λ l. pass && all f (map g l)) n i k) ∙ inv
+
+  -- where all of more numbers pass, all pass
+  pub all-of-more : (m : ℕ) → n ≤ m → all f (map g (upTo m)) ≡ true → all f (map g (upTo n)) ≡ true
+  all-of-more m h e = is-true (all f (map g (upTo n))) (fewer 0 n m h (from-true (all f (map g (upTo m))) e))
+    where
+      fewer : (i few many : ℕ) → few ≤ many → T (all f (map g (countFrom i many))) → T (all f (map g (countFrom i few)))
+      fewer i zero many h t = tt
+      fewer i (suc few) zero h t = absurd (omega arith)
+      fewer i (suc few) (suc many) h t =
+          and-both (f (g i)) (all f (map g (countFrom (suc i) few))) (and-left (f (g i)) (all f (map g (countFrom (suc i) many))) t)
+          (fewer (suc i) few many (omega arith) (and-right (f (g i)) (all f (map g (countFrom (suc i) many))) t))
 
 -- a loop that finds the greatest value of those that pass: the greater of the top so far and the greatest of those left
 module _ (p : ℕ → Bool) (f : ℕ → ℕ) (n : ℕ) where

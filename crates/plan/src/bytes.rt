@@ -32,7 +32,8 @@ fn bases_of(bytes: &[u8]) -> [u8; 16]
     ensures { λ r. ⌜ inUse (threadCount (now (bytes .entry))) r ≡ planOf (now (bytes .entry)) .bases ⌝ }
 {
     let threads = byte_at(bytes, 0);
-    let mut bases = [0u8; 16];
+    // Past the last thread a priority too, so that all sixteen pass at once.
+    let mut bases = [1u8; 16];
     let mut t: usize = 0;
     while t < threads {
         bases[t] = bytes[2 + t];

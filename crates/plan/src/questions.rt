@@ -67,6 +67,37 @@ pub(crate) fn needs_pass(threads: usize, sections: usize, needs: [u16; 16]) -> b
     true
 }
 
+// Whether all sixteen entries are priorities, those past the last thread too: asked at once, without an early end.
+fn all_priorities(bases: [u8; 16]) -> bool
+    ensures { λ r. ⌜ r ≡ all isPriority (inUse 16 bases) ⌝ }
+{
+    let mut pass = true;
+    let mut t: usize = 0;
+    while t < 16 {
+        if !is_priority(bases[t]) {
+            pass = false;
+        }
+        t += 1;
+    }
+    pass
+}
+
+// Whether all sixteen entries have no bit at S or above, in the same way.
+fn all_within(sections: usize, needs: [u16; 16]) -> bool
+    requires { ⌜ sections ≤ 16 ⌝ }
+    ensures { λ r. ⌜ r ≡ all (needsWithin sections) (inUse 16 needs) ⌝ }
+{
+    let mut within = true;
+    let mut t: usize = 0;
+    while t < 16 {
+        if !needs_within(sections, needs[t]) {
+            within = false;
+        }
+        t += 1;
+    }
+    within
+}
+
 // Whether a plan that came from outside passes; the counts are tested before an entry is read. Rules out passing all, and
 // asking about entries past the last thread.
 pub fn passes(plan: Plan) -> bool
@@ -78,9 +109,14 @@ pub fn passes(plan: Plan) -> bool
         return false;
     }
     let bases = plan.bases;
-    if !bases_pass(threads, bases) {
-        return false;
+    if !all_priorities(bases) {
+        if !bases_pass(threads, bases) {
+            return false;
+        }
     }
     let needs = plan.needs;
+    if all_within(sections, needs) {
+        return true;
+    }
     needs_pass(threads, sections, needs)
 }
