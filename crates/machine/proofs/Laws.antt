@@ -35,7 +35,7 @@ pub use Rattle.machine.proofs.Owing.{due-fits}
 pub use Rattle.machine.proofs.InPlace.{Told, Passes, told-told, passed-passes}
 pub use Rattle.machine.proofs.Quieted.{Quiet, soonest-quiet, call-quiet}
 -- what a step answers, case by case, on a machine and its reports side by side
-pub use Rattle.machine.proofs.Outcomes.{call-due, report-breaks, report-given, report-undue, create-asked, caller-asked, take-asked, give-asked, tick-asked, tick-passes, call-breaks, call-settles, call-unswitched, call-switched}
+pub use Rattle.machine.proofs.Outcomes.{call-due, report-breaks, report-given, report-undue, create-asked, caller-asked, take-asked, give-asked, tick-asked, tick-stays, tick-passes, call-breaks, call-settles, call-unswitched, call-switched}
 
 -- a state that stands for one that a run reaches is well formed, up to the last tick number
 pub stands-formed : (s : State) → T (model.validPlan (planOf (s .machine))) → Reached (planOf (s .machine)) (view s) → view s .tickNumber ≤ lastTick → T (formed (planOf (s .machine)) (view s))

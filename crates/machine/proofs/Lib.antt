@@ -2,6 +2,7 @@
 pub mod Arrays
 pub mod Sized
 pub mod Conditions
+pub mod Calm
 pub mod Heirs
 pub mod Views
 pub mod Facts
@@ -12,6 +13,7 @@ pub mod Meets
 pub mod Switched
 pub mod Woken
 pub mod Quieted
+pub mod Stilled
 pub mod After
 pub mod Outside
 pub mod Lent

@@ -203,9 +203,9 @@ module _ (c : Called) (given' : ℕ) {ceilings : List ℕ} {who : ℕ} {r : reco
         ∙ ap (λ (st : state.State). ruleNumber (broken (planOf (c .machine)) st (call k))) comes-idle
 
     -- a Tick that wakes nobody, where the chosen thread is the one reported
-    pub tick-passes : (c' : Called) → Passes c' c → r ≡ call records.Tick → {until : ℕ} → Quiet (c .machine .plan .threads) (c .machine .slots) (c .machine .wakes) until → c .machine .tick .0 + 1 < until → who ≡ c .machine .reported
+    pub tick-stays : (c' : Called) → Passes c' c → r ≡ call records.Tick → tick (idle (c .machine)) ≡ state.setTickNumber (c .machine .tick .0 + 1) (idle (c .machine)) → who ≡ c .machine .reported
         → Answers (stateOf c' given') who 0 (stateOf c given') r
-    tick-passes c' t e {until} quiet below is =
+    tick-stays c' t e stays is =
         moved-on (stateOf c' given') who (t .plan') (asked-here records.Tick e ∙ sym (tick-rule m))
         (seen ∙ sym unswitched-tick ∙ ap (λ (st : state.State). switch p (tick st)) (sym comes-idle) ∙ ap (λ (x : records.Record). effect p x (view (stateOf c given'))) (sym e))
         (caller-asked .caller' ∙ ap numbered (sym (ap (chosen p) seen ∙ chosen-ticked p (m .tick .0 + 1) (idle m))))
@@ -228,7 +228,12 @@ module _ (c : Called) (given' : ℕ) {ceilings : List ℕ} {who : ℕ} {r : reco
             ∙ threadOf-numbered (chosen p (idle m)) (λ x k. let f = facts formed' in omega (arith, queued-known f x (chosen-is p (idle m) x k .0), f .fits .threads))
 
         unswitched-tick : switch p (tick (idle m)) ≡ later-tick
-        unswitched-tick = ap (switch p) (quiet-tick m until quiet below) ∙ switch-none p later-tick (reported-chosen ∙ sym (chosen-ticked p (m .tick .0 + 1) (idle m)))
+        unswitched-tick = ap (switch p) stays ∙ switch-none p later-tick (reported-chosen ∙ sym (chosen-ticked p (m .tick .0 + 1) (idle m)))
+
+    -- so it is where nobody wakes before a later tick number
+    pub tick-passes : (c' : Called) → Passes c' c → r ≡ call records.Tick → {until : ℕ} → Quiet (c .machine .plan .threads) (c .machine .slots) (c .machine .wakes) until → c .machine .tick .0 + 1 < until → who ≡ c .machine .reported
+        → Answers (stateOf c' given') who 0 (stateOf c given') r
+    tick-passes c' t e {until} quiet below is = tick-stays c' t e (quiet-tick (c .machine) until quiet below) is
 
     module _ (k : Call) (e : r ≡ call k) (c' : Called) (m : Makes c' (c .machine) k) where
       pub call-breaks : c' .rule ≢ 0 → Answers (stateOf c' given') who (c' .rule) (stateOf c given') r

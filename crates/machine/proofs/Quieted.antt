@@ -107,19 +107,26 @@ sleeps n ready t = absurd t
 sleeps n (asleep k) t = ap asleep (eqb→eq k n t)
 sleeps n (waiting s) t = absurd t
 
-module _ (m : Machine) (until : ℕ) (q : Quiet (m .plan .threads) (m .slots) (m .wakes) until) where
-  nobody-wakes : (n : ℕ) → n < until → sleepers n (idle m) ≡ []
-  nobody-wakes n h = no-member (sleepers n (idle m)) none
+module _ (m : Machine) where
+  -- no thread sleeps until this tick number
+  abbrev pub NoneUntil : ℕ → Type 0
+  NoneUntil n = (t : ℕ) → t < m .plan .threads → conditionIn (m .slots) (m .wakes) t ≡ asleep n → ⊥
+
+  nobody-wakes : (n : ℕ) → NoneUntil n → sleepers n (idle m) ≡ []
+  nobody-wakes n f = no-member (sleepers n (idle m)) none
     where
       none : (t : ℕ) → Mem t (sleepers n (idle m)) → ⊥
       none t i =
           let r = filtered (λ u. sleepsUntil n (condition (idle m) u)) (upTo (length (idle m .conditions))) i in
           let l : t < m .plan .threads = omega (arith, upTo-at (length (idle m .conditions)) (r .0), length-listed (conditionIn (m .slots) (m .wakes)) (m .plan .threads)) in
-          omega (arith, q .asleep' t n l (sym (condition-at (m .plan .threads) (m .slots) (m .wakes) t l) ∙ sleeps n (condition (idle m) t) (r .1)))
+          f t l (sym (condition-at (m .plan .threads) (m .slots) (m .wakes) t l) ∙ sleeps n (condition (idle m) t) (r .1))
 
-  pub quiet-tick : m .tick .0 + 1 < until → tick (idle m) ≡ setTickNumber (m .tick .0 + 1) (idle m)
+  pub still-tick : NoneUntil (m .tick .0 + 1) → tick (idle m) ≡ setTickNumber (m .tick .0 + 1) (idle m)
   unfolding tick
-  quiet-tick h =
+  still-tick f =
       let n : suc (m .tick .0) ≡ m .tick .0 + 1 = omega arith in
-      ap (λ l. idle m ▷ setTickNumber (suc (m .tick .0)) ▷ arrive l ▷ owe (map Ready l)) (nobody-wakes (suc (m .tick .0)) (omega arith))
+      ap (λ l. idle m ▷ setTickNumber (suc (m .tick .0)) ▷ arrive l ▷ owe (map Ready l)) (nobody-wakes (suc (m .tick .0)) (subst NoneUntil (sym n) f))
       ∙ alike n refl (append-nil (idle m .queue)) refl refl refl refl
+
+  pub quiet-tick : (until : ℕ) → Quiet (m .plan .threads) (m .slots) (m .wakes) until → m .tick .0 + 1 < until → tick (idle m) ≡ setTickNumber (m .tick .0 + 1) (idle m)
+  quiet-tick until q h = still-tick (λ t l e. omega (arith, q .asleep' t (m .tick .0 + 1) l e))

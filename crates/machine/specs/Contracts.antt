@@ -1,6 +1,6 @@
 -- What the machine's functions ask and answer.
 use mathlib.Core.Path.{_≡_}
-use mathlib.Core.Bool.{Bool, false, cond, not, _&&_}
+use mathlib.Core.Bool.{Bool, true, false, cond, not, _&&_}
 use mathlib.Core.List.{List, [], _∷_, map, List·Memᴰ as Mem}
 use mathlib.Core.Option.{Option, none, some, Option·map}
 use Prim.Native.Nat.{ℕ, _+_, max, min, _≤_, _<_}
@@ -11,14 +11,14 @@ use Rattle.model.specs.State as state
 use Rattle.model.specs.State.{Condition, dormant, ready, asleep, waiting}
 use Rattle.model.specs.Priorities.{chosen}
 use Rattle.model.specs.Records as records
-use Rattle.model.specs.Calls.{perform}
+use Rattle.model.specs.Calls.{tick, perform}
 use Rattle.model.specs.Rules.{broken}
 use Rattle.model.specs.Formed.{formed, times, lastTick, lastWake}
 use Rattle.plan.specs.View as plans
 use Rattle.plan.specs.declared.Plan.{Plan}
 use Rattle.lists.specs.declared.queue.Queue.{Queue}
 use Rattle.lists.specs.declared.holds.Holds.{Holds}
-use Rattle.lists.specs.Words.{withNibble}
+use Rattle.lists.specs.Words.{nibble, withNibble}
 use Rattle.lists.specs.Lists.{numbered, queued, ceilingIn}
 use Rattle.machine.specs.declared.Machine.{Machine}
 use Rattle.machine.specs.declared.slots.Slots.{Slots}
@@ -81,6 +81,14 @@ pub record Formed (m : Machine) : Type 0 where
 pub record Counted (m : Machine) : Type 0 where
   pub fits : plans.Fits (m .plan)
   pub counts : Counts (m .queue) (m .holds) (m .waits)
+
+-- each thread stands where its condition says
+abbrev pub Stood : Machine → Type 0
+Stood m = all (λ t. standsBy (queued (m .queue)) (queued (m .waits)) (nibble (m .slots .states) t) t) (upTo (m .plan .threads)) ≡ true
+
+-- no thread waits, and every number names a condition
+abbrev pub Calm : (states threads : ℕ) → Type 0
+Calm states n = all (λ t. ltb (nibble states t) 3) (upTo n) ≡ true
 
 -- the ceilings of the machine's plan, computed once and passed beside it
 abbrev pub Ceilings : Machine → List ℕ → Type 0
@@ -160,3 +168,8 @@ passed c =
       count = c .count;
       rule = c .rule;
     }
+
+-- Where the answer is Yes a Tick moves the tick number alone, and no Switch is due behind it.
+pub record Still (r : Bool) (m : Machine) : Type 0 where
+  pub passes : r ≡ true → tick (idle m) ≡ state.setTickNumber (m .tick .0 + 1) (idle m)
+  pub runs : r ≡ true → numbered (chosen (planOf m) (idle m)) ≡ m .reported

@@ -1,6 +1,6 @@
 -- The code's records as the model's, and what one step answers.
 use mathlib.Core.Path.{_≡_}
-use mathlib.Core.Bool.{cond}
+use mathlib.Core.Bool.{Bool, true, cond}
 use mathlib.Core.List.{List, _∷_, tail}
 use Prim.Native.Nat.{ℕ, _≤_, _<_}
 use lib.Dec.{T, eqb}
@@ -20,7 +20,7 @@ use Rattle.machine.specs.declared.state.State.{State}
 use Rattle.lists.specs.Lists.{numbered}
 use Rattle.machine.specs.Lists.{threadOf, reportOf, owed}
 use Rattle.machine.specs.View.{planOf, viewed, view}
-use Rattle.machine.specs.Contracts.{Ceilings, Chooses, reportsOf}
+use Rattle.machine.specs.Contracts.{Ceilings, Chooses, reportsOf, Still}
 
 abbrev pub recordOf : Record → records.Record
 recordOf (Create t) = records.call (records.Create t)
@@ -69,6 +69,16 @@ pub record Owes (s : State) : Type 0 where
 pub record FirstDue (r : declared.Report) (s : State) : Type 0 where
   pub kind' : IsReport r
   pub first : view s .due ≡ reportOf r ∷ tail (view s .due)
+
+-- a well-formed state whose tick number has room to grow
+pub record Beats (s : State) : Type 0 where
+  pub formed' : T (formed (planOf (s .machine)) (view s))
+  pub room : s .machine .tick .0 < lastTick
+
+-- where the answer is Yes nothing is due, and the machine is still
+pub record Stays (r : Bool) (s : State) : Type 0 where
+  pub undue : r ≡ true → s .due .count ≤ s .given
+  pub still : Still r (s .machine)
 
 -- a report is given: a Switch given names the thread reported
 pub record Delivers (r s : State) (given : declared.Report) : Type 0 where

@@ -9,7 +9,7 @@ ghost use Rattle.model.specs.Priorities.{chosen};
 ghost use Rattle.model.specs.Formed.{lastTick};
 ghost use Rattle.lists.specs.Lists.{numbered};
 ghost use Rattle.machine.specs.View.{planOf, idle, conditionsOf};
-ghost use Rattle.machine.specs.Contracts.{Starts, CreateAsked, Ticks, Asked, SectionAsked, Ceilings, Chooses, Makes, told, passed, soonest};
+ghost use Rattle.machine.specs.Contracts.{Starts, CreateAsked, Ticks, Asked, SectionAsked, Ceilings, Chooses, Makes, told, passed, Still, soonest};
 use crate::Machine;
 use crate::choice;
 use crate::reports::Report;
@@ -350,6 +350,28 @@ impl Machine {
         let h = self.holds;
         let w = self.waits;
         choice::chosen_of(b, ceilings, q, h, w)
+    }
+
+    // Whether a Tick now moves the tick number alone: nobody waits, so that the first of greatest base is chosen, it is the thread reported, and
+    // none of the sixteen tick numbers is the next one. A No may be wrong, of a number that no sleeper waits for: then the Tick is made.
+    pub(crate) fn is_still(self) -> bool
+        requires { ⌜ Ticks self ⌝ }
+        ensures { λ r. ⌜ Still r self ⌝ }
+    {
+        let w = self.waits;
+        if 0 < w.count {
+            return false;
+        }
+        let p = self.plan;
+        let b = p.bases;
+        let q = self.queue;
+        if q.chosen(b, 255, 0) != self.reported {
+            return false;
+        }
+        let now = self.tick;
+        let number = now.next();
+        let wakes = self.wakes;
+        slots::nobody_wakes(wakes, number)
     }
 
     // The tick number before which Ticks wake nobody, 0 where that is not known: found after a Tick, lost by a Delay, and kept by every other call,

@@ -8,7 +8,7 @@ ghost use Rattle.model.specs.Formed.{numbersInRange, formed};
 ghost use Rattle.lists.specs.Words.{nibble};
 ghost use Rattle.lists.specs.Lists.{queued};
 ghost use Rattle.machine.specs.View.{planOf, idle, view};
-ghost use Rattle.machine.specs.Contracts.{Counted, standsBy};
+ghost use Rattle.machine.specs.Contracts.{Counted, Stood, standsBy};
 use crate::Machine;
 use crate::slots;
 use crate::slots::Slots;
@@ -42,9 +42,10 @@ fn stand_once(threads: usize, slots: Slots, queue: Queue, waits: Queue) -> bool
     true
 }
 
-// Whether every number is in range: the tick number, the threads and the sections.
+// Whether every number is in range: the tick number, the threads and the sections. Asked where each thread stands where its condition says, so
+// that where the waits are empty no condition is a wait.
 fn numbers_in_range(m: Machine) -> bool
-    requires { ⌜ Counted m ⌝ }
+    requires { ⌜ Counted m × Stood m ⌝ }
     ensures { λ r. ⌜ r ≡ numbersInRange (planOf m) (idle m) ⌝ }
 {
     let p = m.plan;
@@ -58,14 +59,15 @@ fn numbers_in_range(m: Machine) -> bool
     }
     let s = m.slots;
     let wakes = m.wakes;
-    if !s.in_range(wakes, p.threads, p.sections) {
+    let w = m.waits;
+    let calm = w.count == 0;
+    if !s.fit(wakes, calm, p.threads, p.sections) {
         return false;
     }
     let q = m.queue;
     if !q.below(p.threads) {
         return false;
     }
-    let w = m.waits;
     if !w.below(p.threads) {
         return false;
     }
@@ -95,17 +97,17 @@ pub fn formed(state: State) -> bool
     if !counted(m) {
         return false;
     }
+    let s = m.slots;
+    let q = m.queue;
+    let w = m.waits;
+    if !stand_once(p.threads, s, q, w) {
+        return false;
+    }
     if !numbers_in_range(m) {
         return false;
     }
     let h = m.holds;
     if !h.once(p.sections) {
-        return false;
-    }
-    let s = m.slots;
-    let q = m.queue;
-    let w = m.waits;
-    if !stand_once(p.threads, s, q, w) {
         return false;
     }
     let due = state.due;

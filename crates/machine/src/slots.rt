@@ -1,13 +1,14 @@
 // The conditions of the threads.
 ghost use mathlib.Core.Path.{_≡_};
-ghost use mathlib.Core.Bool.{cond, _&&_};
+ghost use mathlib.Core.Bool.{true, cond, not, _&&_};
 ghost use Prim.Native.Nat.{_≤_, _<_};
 ghost use lib.Dec.{eqb, leb};
 ghost use Rattle.model.specs.Searches.{all};
-ghost use Rattle.model.specs.Formed.{conditionInRange};
+ghost use Rattle.model.specs.Formed.{lastWake, conditionInRange};
+ghost use Rattle.plan.specs.View.{inUse};
 ghost use Rattle.lists.specs.Words.{nibble};
 ghost use Rattle.machine.specs.View.{conditionOf, conditionsOf};
-ghost use Rattle.machine.specs.Contracts.{placed, waitsFor, soonest};
+ghost use Rattle.machine.specs.Contracts.{placed, waitsFor, Calm, soonest};
 use crate::time::LAST_WAKE;
 use crate::time::Tick;
 use lists::nibbles::nibble_at;
@@ -76,6 +77,17 @@ impl Slots {
         true
     }
 
+    // The same, where `calm` says that no thread waits: then the tick numbers alone are left to ask, of all sixteen at once.
+    pub(crate) fn fit(self, wakes: [u32; 16], calm: bool, threads: usize, sections: usize) -> bool
+        requires { ⌜ (threads ≤ 16) × (sections ≤ 16) × (calm ≡ true → Calm (self .states) threads) ⌝ }
+        ensures { λ r. ⌜ r ≡ all (conditionInRange sections) (conditionsOf threads self wakes) ⌝ }
+    {
+        if calm && in_time(wakes) {
+            return true;
+        }
+        self.in_range(wakes, threads, sections)
+    }
+
     // The least tick number that a sleeper waits for, LAST_WAKE where nobody sleeps before it.
     pub(crate) fn soonest(self, wakes: [u32; 16], threads: usize) -> u32
         requires { ⌜ threads ≤ 16 ⌝ }
@@ -100,6 +112,36 @@ pub(crate) fn sleeps_until(state: u8, wake: u32, number: Tick) -> bool
     ensures { λ r. ⌜ r ≡ eqb state 2 && eqb wake (number .0) ⌝ }
 {
     state == 2 && wake == number.0
+}
+
+// Whether none of sixteen tick numbers is above the greatest that a sleeper waits for: asked at once, without an early end.
+pub(crate) fn in_time(wakes: [u32; 16]) -> bool
+    ensures { λ r. ⌜ r ≡ all (λ n. leb n lastWake) (inUse 16 wakes) ⌝ }
+{
+    let mut pass = true;
+    let mut t: usize = 0;
+    while t < 16 {
+        if LAST_WAKE < wakes[t] {
+            pass = false;
+        }
+        t += 1;
+    }
+    pass
+}
+
+// Whether none of them is this one, in the same way.
+pub(crate) fn nobody_wakes(wakes: [u32; 16], number: Tick) -> bool
+    ensures { λ r. ⌜ r ≡ all (λ n. not (eqb n (number .0))) (inUse 16 wakes) ⌝ }
+{
+    let mut none = true;
+    let mut t: usize = 0;
+    while t < 16 {
+        if wakes[t] == number.0 {
+            none = false;
+        }
+        t += 1;
+    }
+    none
 }
 
 // How often a thread in this condition stands in the queue.

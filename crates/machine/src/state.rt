@@ -2,7 +2,7 @@
 ghost use mathlib.Core.Path.{_≡_};
 ghost use lib.ListN.{length};
 ghost use Rattle.machine.specs.View.{view};
-ghost use Rattle.machine.specs.Steps.{Fresh, Owes, FirstDue, Delivers, stateOf};
+ghost use Rattle.machine.specs.Steps.{Fresh, Owes, FirstDue, Delivers, Beats, Stays, stateOf};
 use crate::Machine;
 use crate::calls::Called;
 use crate::reports::Report;
@@ -37,6 +37,19 @@ impl State {
         let n = due.count;
         let at = self.given;
         if at < n { n - at } else { 0 }
+    }
+
+    // Whether a Tick now moves the tick number alone: see Contracts.Still.
+    pub fn is_still(self) -> bool
+        requires { ⌜ Beats self ⌝ }
+        ensures { λ r. ⌜ Stays r self ⌝ }
+    {
+        let due = self.due;
+        if self.given < due.count {
+            return false;
+        }
+        let m = self.machine;
+        m.is_still()
     }
 
     // The report due first.
