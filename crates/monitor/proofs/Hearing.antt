@@ -1,6 +1,7 @@
 -- What a record answers on a state with the ceilings of its plan and its chosen thread beside it; and of a report, by what is due.
 use mathlib.Core.Path.{_≡_, refl, ap, sym, _∙_}
 use mathlib.Core.Logic.{_≢_}
+use mathlib.Core.Bool.{Bool, true}
 use mathlib.Core.List.{List}
 use Prim.Native.Nat.{ℕ, _+_, _≤_, _<_}
 use lib.Dec.{T}
@@ -12,9 +13,9 @@ use Rattle.machine.specs.declared.calls.Called.{Called}
 use Rattle.machine.specs.declared.state.State.{State}
 use Rattle.machine.specs.Lists.{numbered, noReport}
 use Rattle.machine.specs.View.{planOf, view, idle}
-use Rattle.machine.specs.Contracts.{Ceilings}
-use Rattle.machine.specs.Steps.{Answers, stateOf}
-use Rattle.machine.proofs.Laws.{Told, formed-facts, chosen-due, report-undue}
+use Rattle.machine.specs.Contracts.{Ceilings, passed}
+use Rattle.machine.specs.Steps.{Answers, Beats, Stays, stateOf}
+use Rattle.machine.proofs.Laws.{Told, passed-passes, formed-facts, chosen-due, report-undue, tick-stays}
 use Rattle.dump.specs.Layout.{recordOf}
 use Rattle.dump.specs.Questions.{operandFits}
 use Rattle.dump.proofs.Laws.{wider, report-reads}
@@ -61,3 +62,16 @@ module _ (s : State) (kind operand : ℕ) (a : Asked s kind operand) where
 
   pub hear-undue : s .due .count ≤ s .given → 16 ≤ kind → Judges (record { state = s; rule = 28 }) s (recordOf kind operand)
   hear-undue h b = let k = report-reads kind operand fits b in judges (report-undue (parts s) (s .given) (a .steps) h _ (sym (k .same)))
+
+  is-tick : kind ≡ 7 → recordOf kind operand ≡ records.call records.Tick
+  is-tick q = rw q
+
+  -- a Tick that moves the tick number alone
+  pub still-moves : kind ≡ 7 → {r : Bool} → Stays r s → r ≡ true → Judges (record { state = stateOf (passed (parts s)) (s .given); rule = 0 }) s (recordOf kind operand)
+  still-moves q t y =
+      let m = s .machine in
+      judges (tick-stays (parts s) (s .given) (a .steps) (t .undue y) (passed (parts s)) (passed-passes (parts s)) (is-tick q) (t .still .passes y) (ap numbered (chosen-due (planOf m) m (view s .due)) ∙ t .still .runs y))
+
+  -- where a Tick came there is room for it
+  pub beats : kind ≡ 7 → Beats s
+  beats q = record { formed' = a .steps .formed; room = a .steps .tick (is-tick q) }

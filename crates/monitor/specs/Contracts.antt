@@ -1,7 +1,7 @@
 -- What this crate's functions ask and answer.
 use mathlib.Core.Path.{_≡_}
 use mathlib.Core.Logic.{_⊎_}
-use mathlib.Core.Bool.{false, cond}
+use mathlib.Core.Bool.{true, false, cond}
 use mathlib.Core.List.{List, [], _∷_, map}
 use Prim.Native.Nat.{ℕ, _+_, _%_, _≤_, _<_}
 use lib.Dec.{T, eqb, ltb}
@@ -32,6 +32,7 @@ use Rattle.monitor.specs.declared.live.Begun.{Begun}
 use Rattle.monitor.specs.declared.live.Reply as replies
 use Rattle.monitor.specs.declared.live.Reply.the-variants as says
 use Rattle.monitor.specs.declared.live.Told.{Told}
+use Rattle.monitor.specs.declared.live.Advanced.{Advanced}
 use Rattle.monitor.specs.Watching as watching
 use Rattle.monitor.specs.Watching.{Watched, begin, reply, after}
 
@@ -111,3 +112,22 @@ pub record Tells (r : Told) (w : Watch) (kind operand : ℕ) : Type 0 where
   pub stored' : (w .rule ≡ 0 → ⊥) → r .watch ≡ w
   -- a new breach changes the stored rule alone
   pub breach' : (n : ℕ) → w .rule ≡ 0 → reply (seen w) kind operand ≡ watching.broken n → r .watch ≡ record { state = w .state; rule = n }
+
+-- a watch state with another tick number and another stored rule, and nothing else changed
+abbrev pub slightly : Watch → (number rule : ℕ) → Watch
+slightly w n rule =
+    let m = w .state .machine in
+    record {
+      state =
+          record {
+            machine = record { plan = m .plan; tick = record { 0 = n }; slots = m .slots; wakes = m .wakes; queue = m .queue; holds = m .holds; waits = m .waits; reported = m .reported };
+            due = w .state .due;
+            given = w .state .given;
+          };
+      rule = rule;
+    }
+
+-- The same, with the word whether nothing moved but the tick number and the stored rule.
+pub record Advances (r : Advanced) (w : Watch) (kind operand : ℕ) : Type 0 where
+  pub tells : Tells (record { watch = r .watch; reply = r .reply }) w kind operand
+  pub slight' : r .slight ≡ true → r .watch ≡ slightly w (r .watch .state .machine .tick .0) (r .watch .rule)

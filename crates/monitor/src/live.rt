@@ -1,9 +1,13 @@
 // The watch state and the live step: one record at a time, on a state that is lent.
 ghost use mathlib.Core.Path.{_≡_};
+ghost use mathlib.Core.Bool.{true};
+ghost use lib.ListN.{length};
+ghost use Rattle.machine.specs.View.{view};
 ghost use Rattle.plan.specs.Bytes.{number};
 ghost use Rattle.dump.specs.Layout.{recordOf};
 ghost use Rattle.monitor.specs.Watching.{isRule, refusal};
-ghost use Rattle.monitor.specs.Contracts.{Asked, Judges, seen, Begins, Tells};
+ghost use Rattle.monitor.specs.Contracts.{Asked, Judges, seen, Begins, Tells, Advances};
+ghost use Rattle.monitor.specs.declared.live.Reply.the-variants as says;
 use crate::heard::Judged;
 use crate::heard::hear;
 use crate::single::step;
@@ -40,6 +44,13 @@ pub enum Reply {
 pub struct Told {
     pub watch: Watch,
     pub reply: Reply,
+}
+
+// What a live step tells, and whether it moved nothing but the tick number and the stored rule, so that nothing else need be stored.
+pub struct Advanced {
+    pub watch: Watch,
+    pub reply: Reply,
+    pub slight: bool,
 }
 
 // A watch state is made from a plan that passes 1 to 4, and carries it; of another it carries no thread, so that every step answers 12.
@@ -95,14 +106,11 @@ fn refused(watch: Watch, kind: u8, operand: u16) -> u8
     0
 }
 
-// One record that passed 12, 7, 8 and 13: a report by what is due, a call by a walk.
-fn judged(state: State, kind: u8, operand: u16) -> Judged
+// A call that passed 12, 7, 8 and 13, by a walk.
+fn called(state: State, kind: u8, operand: u16) -> Judged
     requires { ⌜ Asked state kind operand ⌝ }
     ensures { λ r. ⌜ Judges r state (recordOf kind operand) ⌝ }
 {
-    if 16 <= kind {
-        return hear(state, Entry { kind, operand });
-    }
     let m = state.machine;
     let p = m.plan;
     let all = ceilings(p);
@@ -115,29 +123,80 @@ fn judged(state: State, kind: u8, operand: u16) -> Judged
     }
 }
 
+// A record that moved the machine: the state after it, clean with the number due.
+fn moved(watch: Watch, after: State, slight: bool) -> Advanced
+    ensures { λ r. ⌜ r ≡ record { watch = record { state = after; rule = watch .rule }; reply = says.Clean (length (view after .due)); slight = slight } ⌝ }
+{
+    let mut w = watch;
+    w.state = after;
+    Advanced {
+        watch: w,
+        reply: Reply::Clean(after.due_count()),
+        slight,
+    }
+}
+
+// A new breach changes the stored rule alone.
+fn breached(watch: Watch, rule: u8) -> Advanced
+    ensures { λ r. ⌜ r ≡ record { watch = record { state = watch .state; rule = rule }; reply = says.Broken rule; slight = true } ⌝ }
+{
+    let mut w = watch;
+    w.rule = rule;
+    Advanced {
+        watch: w,
+        reply: Reply::Broken(rule),
+        slight: true,
+    }
+}
+
+// One record, on any lent state. A Tick that moves the tick number alone and a report are judged without ceilings, choice or walk.
+pub(crate) fn advance(watch: Watch, kind: u8, operand: u16) -> Advanced
+    ensures { λ r. ⌜ Advances r watch kind operand ⌝ }
+{
+    let no = refused(watch, kind, operand);
+    if no != 0 {
+        return Advanced {
+            watch,
+            reply: Reply::Refused(no),
+            slight: true,
+        };
+    }
+    if watch.rule != 0 {
+        return Advanced {
+            watch,
+            reply: Reply::Broken(watch.rule),
+            slight: true,
+        };
+    }
+    let s = watch.state;
+    if kind == 7 && s.is_still() {
+        let c = s.opened();
+        let p = c.passed();
+        return moved(watch, p.closed(s.given), true);
+    }
+    if 16 <= kind {
+        let o = hear(s, Entry { kind, operand });
+        if o.rule != 0 {
+            return breached(watch, o.rule);
+        }
+        let after = o.state;
+        return moved(watch, after, false);
+    }
+    let o = called(s, kind, operand);
+    if o.rule != 0 {
+        return breached(watch, o.rule);
+    }
+    let after = o.state;
+    moved(watch, after, false)
+}
+
 // One record, on any lent state: the answer, and the state after it. Rules out a step that leaves the state alone, one that judges anew after
 // a breach, and a breach that moves the machine.
 pub fn live(watch: Watch, kind: u8, operand: u16) -> Told
     ensures { λ r. ⌜ Tells r watch kind operand ⌝ }
 {
-    let no = refused(watch, kind, operand);
-    let mut w = watch;
-    let mut reply = Reply::Refused(no);
-    if no == 0 {
-        if watch.rule != 0 {
-            reply = Reply::Broken(watch.rule);
-        } else {
-            let s = watch.state;
-            let o = judged(s, kind, operand);
-            if o.rule != 0 {
-                w.rule = o.rule;
-                reply = Reply::Broken(o.rule);
-            } else {
-                let after = o.state;
-                w.state = after;
-                reply = Reply::Clean(after.due_count());
-            }
-        }
-    }
+    let a = advance(watch, kind, operand);
+    let w = a.watch;
+    let reply = a.reply;
     Told { watch: w, reply }
 }
