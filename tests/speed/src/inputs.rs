@@ -61,6 +61,11 @@ pub fn mixed(name: &'static str, seed: u64, threads: usize, sections: usize, rec
     input(name, 1.0, random::mixed(seed, threads, sections, records))
 }
 
+/// Ticks that wake nobody, behind a few calls. No aim is set for it.
+pub fn ticks_alone(threads: u16, waits: bool) -> Input {
+    input("ticks alone", f64::INFINITY, regular::ticks_alone(threads, waits, LONG))
+}
+
 #[cfg(test)]
 mod tests {
     use super::*;
@@ -84,6 +89,21 @@ mod tests {
                 input.name
             );
             assert!((0.08..0.12).contains(&share(input, TICK)), "{}: {}", input.name, share(input, TICK));
+        }
+    }
+
+    #[test]
+    fn ticks_alone_wake_nobody_and_one_thread_may_wait() {
+        for waits in [false, true] {
+            let input = ticks_alone(16, waits);
+            let behind = input
+                .decoded()
+                .iter()
+                .skip_while(|record| record.0 != TICK)
+                .filter(|record| record.0 != TICK)
+                .count();
+            assert_eq!(behind, 0);
+            assert_eq!(share(&input, LOST) > 0.0, waits);
         }
     }
 

@@ -76,6 +76,7 @@ fn measure(wishes: Wishes) {
     report.whole(&inputs);
     report.live(&inputs);
     if wishes.names.is_empty() {
+        report.against_ticks();
         report.against_records();
         report.against_sizes();
     }

@@ -75,21 +75,44 @@ impl Report {
         }
     }
 
-    pub fn live(&mut self, inputs: &[Input]) {
-        println!("\nLive step, nanoseconds per record, against Rattle's whole check");
-        println!("{:<20}{:>8}{:>8}{:>8}  aim", "input", "step", "whole", "ratio");
+    /// A live step and a record of the whole check, for each input.
+    fn steps(&self, inputs: &[Input]) -> Vec<[f64; 2]> {
         let sides: Vec<_> = inputs
             .chunks(1)
             .flat_map(|input| [sides::live(&input[0]), sides::rattle(input)])
             .collect();
         let times = medians(&sides, self.rounds);
-        for (input, time) in inputs.iter().zip(times.chunks_exact(2)) {
-            let ratio = time[0] / time[1];
+        times.chunks_exact(2).map(|t| [t[0], t[1]]).collect()
+    }
+
+    pub fn live(&mut self, inputs: &[Input]) {
+        println!("\nLive step, nanoseconds per record, against Rattle's whole check");
+        println!("{:<20}{:>8}{:>8}{:>8}  aim", "input", "step", "whole", "ratio");
+        for (input, [step, whole]) in inputs.iter().zip(self.steps(inputs)) {
+            let ratio = step / whole;
             let met = self.verdict(ratio, LIVE_AIM);
-            println!(
-                "{:<20}{:>8.2}{:>8.2}{ratio:>8.2}  {LIVE_AIM:.1} {met}",
-                input.name, time[0], time[1]
-            );
+            println!("{:<20}{step:>8.2}{whole:>8.2}{ratio:>8.2}  {LIVE_AIM:.1} {met}", input.name);
+        }
+    }
+
+    /// Where the whole check is at its cheapest: every record moves the tick number alone.
+    pub fn against_ticks(&self) {
+        println!("\nLive step on Ticks that wake nobody, with nobody waiting and with one thread");
+        println!("{:<20}{:>8}{:>8}{:>8}", "input", "step", "whole", "ratio");
+        let cases = [
+            (2, false),
+            (4, false),
+            (8, false),
+            (16, false),
+            (2, true),
+            (4, true),
+            (8, true),
+            (16, true),
+        ];
+        let inputs = cases.map(|(threads, waits)| inputs::ticks_alone(threads, waits));
+        for ((threads, waits), [step, whole]) in cases.iter().zip(self.steps(&inputs)) {
+            let name = format!("T {threads}, {}", if *waits { "one waits" } else { "none waits" });
+            println!("{name:<20}{step:>8.2}{whole:>8.2}{:>8.2}", step / whole);
         }
     }
 

@@ -1,4 +1,4 @@
-//! Inputs of one pattern over and over, with nothing but calls of threads.
+//! Inputs of one pattern over and over.
 
 use super::Recorder;
 use crate::peer::*;
@@ -46,6 +46,27 @@ pub fn relinquish(records: usize) -> (Vec<u8>, Vec<u8>) {
     }
     while !run.full() {
         run.must(RELINQUISH, 0);
+    }
+    run.finish()
+}
+
+/// One thread runs and holds a section, the others sleep for longer than the dump; if `waits`, the last one waits for the section instead. Nothing
+/// but Ticks follows.
+pub fn ticks_alone(threads: u16, waits: bool, records: usize) -> (Vec<u8>, Vec<u8>) {
+    let plan: Vec<(u8, u16)> = (0..threads).map(|thread| (1 + thread as u8, 1)).collect();
+    let mut run = Recorder::new(1, &plan, records);
+    run.must(CREATE, 0);
+    run.must(TAKE, 0);
+    for thread in 1..threads {
+        run.must(CREATE, thread);
+        if waits && thread + 1 == threads {
+            run.must(TAKE, 0);
+        } else {
+            run.must(DELAY, 60_000);
+        }
+    }
+    while !run.full() {
+        run.must(TICK, 0);
     }
     run.finish()
 }
