@@ -21,6 +21,8 @@ pub use Rattle.lists.proofs.Queues.{overtaken, replaced, stayed, nobody
 pub use Rattle.lists.proofs.Holdings.{all-none, AnyLeft, missed, found, none-found}
 -- those that pass a test, of a list with one more at its end
 pub use Rattle.lists.proofs.Queues.{filter-kept, filter-dropped}
+-- a word has as many numbers that pass a test as are counted, at most
+pub use Rattle.lists.proofs.Queues.{times-within}
 
 -- a list has as many entries as its count says
 

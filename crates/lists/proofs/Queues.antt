@@ -13,9 +13,10 @@ use lib.Seq.{getD-set-same, getD-set-other}
 use Rattle.model.specs.Searches.{filter, better, firstGreatest}
 use Rattle.model.specs.Formed.{times}
 use Rattle.model.proofs.Tests.{split, is-true, is-false, equal?}
-use Rattle.lists.specs.Words.{nibbles, entryOf}
+use Rattle.lists.specs.Words.{nibble, withNibble, nibbles, entryOf}
 use Rattle.lists.specs.Lists.{numbered, currentIn}
 use Rattle.lists.proofs.Holdings.{times-bound}
+use Rattle.lists.proofs.Words.{read-set, read-other}
 
 -- a turn takes the first of those that are left
 pub first : (left rest : ℕ) → 0 < left → nibbles left rest ≡ rest % 16 ∷ nibbles (left - 1) (rest / 16)
@@ -78,6 +79,15 @@ counted found l k t h = go (equal? k t)
     go : (k ≡ t) ⊎ (k ≢ t) → entryOf (set found k (entryOf found k + 1)) t + times (λ u. eqb u t) l ≡ entryOf found t + times (λ u. eqb u t) (k ∷ l)
     go (inl e) = rw (e, eq-eqb t t refl) (omega (arith, e, getD-set-same found t (entryOf found t + 1) 0 (omega (arith, e))))
     go (inr n) = rw (ne-eqb k t n, getD-set-other found k t (entryOf found k + 1) 0 (λ e. n (sym e)))
+
+-- and one that counts it at its place of a word
+pub marked : (w : ℕ) (l : List ℕ) (k t : ℕ) → nibble w k + 1 < 16
+    → nibble (withNibble w k (nibble w k + 1)) t + times (λ u. eqb u t) l ≡ nibble w t + times (λ u. eqb u t) (k ∷ l)
+marked w l k t h = go (equal? k t)
+  where
+    go : (k ≡ t) ⊎ (k ≢ t) → nibble (withNibble w k (nibble w k + 1)) t + times (λ u. eqb u t) l ≡ nibble w t + times (λ u. eqb u t) (k ∷ l)
+    go (inl e) = rw (sym e, eq-eqb k k refl) (omega (arith, read-set w k (nibble w k + 1) h))
+    go (inr n) = rw (ne-eqb k t n) (ap (λ x. x + times (λ u. eqb u t) l) (read-other w k t (nibble w k + 1) h (λ e. n (sym e))))
 
 pub times-within : (f : ℕ → Bool) (n w : ℕ) → times f (nibbles n w) ≤ n
 times-within f n w = omega (arith, times-bound f (nibbles n w), length-nibbles n w)

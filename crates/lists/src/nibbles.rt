@@ -1,7 +1,7 @@
 // Sixteen numbers in a word, four bits each; the first stands in the lowest four.
 ghost use mathlib.Core.Path.{_≡_};
 ghost use mathlib.Core.List.{map};
-ghost use Prim.Native.Nat.{_≤_, _<_};
+ghost use Prim.Native.Nat.{ℕ, _+_, _≤_, _<_};
 ghost use lib.Dec.{eqb};
 ghost use lib.ListN.{replicate};
 ghost use Rattle.model.specs.Searches.{upTo};
@@ -43,4 +43,22 @@ pub fn tally(word: u64, count: usize, found: &mut [u8])
         let n = found[k];
         found[k] = n + 1;
     }
+}
+
+// A one more at the place of each number that stands among the first ones of a word, counted on from a word that is given.
+pub fn marks(start: u64, word: u64, count: usize) -> u64
+    requires { ⌜ (count ≤ 16) × ((t : ℕ) → t < 16 → nibble start t + count < 16) ⌝ }
+    ensures { λ r. ⌜ ((t : ℕ) → t < 16 → nibble r t ≡ nibble start t + times (λ u. eqb u t) (nibbles count word)) ⌝ }
+{
+    let mut total = start;
+    let mut rest = word;
+    let mut left = count;
+    while 0 < left {
+        let k = (rest % 16) as u8;
+        rest = rest / 16;
+        left -= 1;
+        let n = nibble_at(total, k);
+        total = with_nibble(total, k, n + 1);
+    }
+    total
 }

@@ -3,6 +3,7 @@ pub mod Arrays
 pub mod Sized
 pub mod Conditions
 pub mod Calm
+pub mod Standing
 pub mod Heirs
 pub mod Views
 pub mod Facts

@@ -1,7 +1,7 @@
 // Answer 12: whether a state that came from outside is well formed. The counts are tested before an entry is read.
 ghost use mathlib.Core.Path.{_≡_};
-ghost use mathlib.Core.Bool.{_&&_};
-ghost use Prim.Native.Nat.{_≤_};
+ghost use mathlib.Core.Bool.{true, _&&_};
+ghost use Prim.Native.Nat.{ℕ, _+_, _≤_, _<_};
 ghost use lib.Dec.{leb};
 ghost use Rattle.model.specs.Searches.{all, upTo};
 ghost use Rattle.model.specs.Formed.{numbersInRange, formed};
@@ -14,16 +14,37 @@ use crate::slots;
 use crate::slots::Slots;
 use crate::state::State;
 use crate::time::LAST_TICK;
+use lists::nibbles::marks;
 use lists::nibbles::nibble_at;
 use lists::nibbles::tally;
 use lists::queue::Queue;
 use plan::questions::passes;
 
-// Whether each thread stands once in the queue if it is ready, once in the waits if it waits, and nowhere else.
+// Whether all sixteen threads stand where their conditions say, those past the last thread too: asked of whole words. The lowest bit of a
+// condition says that the thread is listed, the next one, of a listed thread, that it waits.
+fn all_stand(states: u64, queue: Queue, waits: Queue) -> bool
+    requires { ⌜ queue .count + waits .count < 16 ⌝ }
+    ensures { λ r. ⌜ (r ≡ true → (t : ℕ) → t < 16 → standsBy (queued queue) (queued waits) (nibble states t) t ≡ true) ⌝ }
+{
+    let lined = marks(0, queue.items, queue.count);
+    let listed = marks(lined, waits.items, waits.count);
+    let waiting = marks(0, waits.items, waits.count);
+    states & 0xcccccccccccccccc == 0
+        && states & 0x1111111111111111 == listed
+        && (states / 2) & listed == waiting
+}
+
+// Whether each thread stands once in the queue if it is ready, once in the waits if it waits, and nowhere else. Where not all sixteen do so at
+// once, the threads of the plan are asked one by one.
 fn stand_once(threads: usize, slots: Slots, queue: Queue, waits: Queue) -> bool
     requires { ⌜ (threads ≤ 16) × (queue .count ≤ 16) × (waits .count ≤ 16) ⌝ }
     ensures { λ r. ⌜ r ≡ all (λ t. standsBy (queued queue) (queued waits) (nibble (slots .states) t) t) (upTo threads) ⌝ }
 {
+    if queue.count + waits.count < 16 {
+        if all_stand(slots.states, queue, waits) {
+            return true;
+        }
+    }
     let mut lined = [0u8; 16];
     tally(queue.items, queue.count, &mut lined);
     let mut waiting = [0u8; 16];

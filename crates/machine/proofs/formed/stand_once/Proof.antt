@@ -13,6 +13,7 @@ use Rattle.plan.proofs.Loops.{AllLeft, all-begin, passed, failed, all-passed, l
 use Rattle.lists.specs.Words.{nibble, entryOf}
 use Rattle.lists.specs.Lists.{queued}
 use Rattle.machine.specs.Contracts.{standsBy}
+use Rattle.machine.proofs.Standing.{all-below}
 use Rattle.machine.proofs.formed.stand_once.Statement.{statement}
 use Rattle.machine.proofs.formed.stand_once.Tie as tie
 
@@ -33,6 +34,18 @@ Inv-loop threads slots lined waiting t₀ t =
 abbrev μ-loop : tie.MeasureT-loop
 μ-loop threads slots lined waiting t₀ t = threads - t
 
+add-if1 : tie.Need-add-if1 Inv-loop μ-loop
+add-if1 c = search needs
+
+all-stand-requires : tie.Need-all-stand-requires Inv-loop μ-loop
+all-stand-requires c κs = search needs
+
+returns : tie.Need-returns Inv-loop μ-loop
+returns c =
+    let b = c .before .before .before .before .before in
+    let a = b .args in
+    sym (all-below (λ t. standsBy (queued (a .queue)) (queued (a .waits)) (nibble (a .slots .states) t) t) (a .threads) 16 (b .pre .0) (c .before .all-stand .ensures (c .if2 .taken)))
+
 slice-aggregate-tally : tie.Need-slice-aggregate-tally Inv-loop μ-loop
 slice-aggregate-tally c = search needs
 
@@ -46,7 +59,7 @@ tally-requires-2 : tie.Need-tally-requires-2 Inv-loop μ-loop
 tally-requires-2 c κs = search needs
 
 loop-holds : tie.Need-loop-holds Inv-loop μ-loop
-loop-holds c = (omega arith, λ f e. all-begin f (λ u. u) (c .before .before .before .before .before .before .args .threads))
+loop-holds c = (omega arith, λ f e. all-begin f (λ u. u) (c .before .before .before .before .before .before .before .before .before .args .threads))
 
 cast-nibble-at : tie.Need-cast-nibble-at Inv-loop μ-loop
 cast-nibble-at c = search needs
@@ -54,8 +67,8 @@ cast-nibble-at c = search needs
 nibble-at-requires : tie.Need-nibble-at-requires Inv-loop μ-loop
 nibble-at-requires c κs = search needs
 
-array-read-if1 : tie.Need-array-read-if1 Inv-loop μ-loop
-array-read-if1 c = search needs
+array-read-if3 : tie.Need-array-read-if3 Inv-loop μ-loop
+array-read-if3 c = search needs
 
 in-queue-requires : tie.Need-in-queue-requires Inv-loop μ-loop
 in-queue-requires c κs = search needs
@@ -66,7 +79,7 @@ module _ (k : tie.At-loop Inv-loop μ-loop) where
   first = k .before .before .before .before .before
 
   abbrev start : tie.Start Inv-loop μ-loop
-  start = first .before .before
+  start = first .before .before .before .before .before
 
   abbrev lined : List ℕ
   lined = first .tally .last .1 .1 .0
@@ -85,17 +98,17 @@ answers k b g =
     g f (λ u h. says (queued (a .queue)) (queued (a .waits)) (lined k) (waiting k) (first k .tally .ensures) (k .before .before .tally2 .ensures) (nibble (a .slots .states) u) u (omega (arith, start k .pre .0)))
     ∙ ap (all f) (map-id (upTo (a .threads)))
 
-returns : tie.Need-returns Inv-loop μ-loop
-returns c =
+returns-2 : tie.Need-returns-2 Inv-loop μ-loop
+returns-2 c =
     let k = c .before .before .before .before in
     let a = start k .args in
     let r = c .before .in-queue in
     answers k false (λ f e.
     failed f (λ u. u) (a .threads) (k .loop .t) (omega arith) (k .loop .inv .1 f e)
-    (sym (e (k .loop .t) (omega arith)) ∙ (rw (← c .before .before .nibble-at .ensures, ← r .ensures, ne-eqb (entryOf (lined k) (k .loop .t)) (r .result) (c .if1 .taken)))))
+    (sym (e (k .loop .t) (omega arith)) ∙ (rw (← c .before .before .nibble-at .ensures, ← r .ensures, ne-eqb (entryOf (lined k) (k .loop .t)) (r .result) (c .if3 .taken)))))
 
-array-read-if2 : tie.Need-array-read-if2 Inv-loop μ-loop
-array-read-if2 c = search needs
+array-read-if4 : tie.Need-array-read-if4 Inv-loop μ-loop
+array-read-if4 c = search needs
 
 in-waits-requires : tie.Need-in-waits-requires Inv-loop μ-loop
 in-waits-requires c κs = search needs
@@ -108,15 +121,15 @@ rests c =
     let i = c .before in
     let k = i .before .before .before .before in
     let r = i .before .in-queue in
-    rw (← i .before .before .nibble-at .ensures, ← r .ensures, ← c .in-waits .ensures, eq-eqb (entryOf (lined k) (k .loop .t)) (r .result) (i .if1 .left))
+    rw (← i .before .before .nibble-at .ensures, ← r .ensures, ← c .in-waits .ensures, eq-eqb (entryOf (lined k) (k .loop .t)) (r .result) (i .if3 .left))
 
-returns-2 : tie.Need-returns-2 Inv-loop μ-loop
-returns-2 c =
+returns-3 : tie.Need-returns-3 Inv-loop μ-loop
+returns-3 c =
     let k = c .before .before .before .before .before .before in
     let a = start k .args in
     answers k false (λ f e.
     failed f (λ u. u) (a .threads) (k .loop .t) (omega arith) (k .loop .inv .1 f e)
-    (sym (e (k .loop .t) (omega arith)) ∙ rests (c .before) ∙ ne-eqb (entryOf (waiting k) (k .loop .t)) (c .before .in-waits .result) (c .if2 .taken)))
+    (sym (e (k .loop .t) (omega arith)) ∙ rests (c .before) ∙ ne-eqb (entryOf (waiting k) (k .loop .t)) (c .before .in-waits .result) (c .if4 .taken)))
 
 add-t : tie.Need-add-t Inv-loop μ-loop
 add-t c = search needs
@@ -131,11 +144,11 @@ loop-again c =
       omega arith,
       λ f e.
           passed f (λ u. u) (a .threads) (k .loop .t) (omega arith) (k .loop .inv .1 f e)
-          (sym (e (k .loop .t) (omega arith)) ∙ rests (c .before) ∙ eq-eqb (entryOf (waiting k) (k .loop .t)) (c .before .in-waits .result) (c .if2 .left)),
+          (sym (e (k .loop .t) (omega arith)) ∙ rests (c .before) ∙ eq-eqb (entryOf (waiting k) (k .loop .t)) (c .before .in-waits .result) (c .if4 .left)),
     )
 
-returns-3 : tie.Need-returns-3 Inv-loop μ-loop
-returns-3 c =
+returns-4 : tie.Need-returns-4 Inv-loop μ-loop
+returns-4 c =
     let k = c .before in
     answers k true (λ f e. all-passed f (λ u. u) (start k .args .threads) (k .loop .t) (omega arith) (k .loop .inv .1 f e))
 
@@ -145,6 +158,9 @@ stand-once-spec =
     (tie.spec
     Inv-loop
     μ-loop
+    add-if1
+    all-stand-requires
+    returns
     slice-aggregate-tally
     tally-requires
     slice-aggregate-tally-2
@@ -152,13 +168,13 @@ stand-once-spec =
     loop-holds
     cast-nibble-at
     nibble-at-requires
-    array-read-if1
+    array-read-if3
     in-queue-requires
-    returns
-    array-read-if2
-    in-waits-requires
     returns-2
+    array-read-if4
+    in-waits-requires
+    returns-3
     add-t
     loop-less
     loop-again
-    returns-3)
+    returns-4)
