@@ -352,20 +352,22 @@ impl Machine {
         choice::chosen_of(b, ceilings, q, h, w)
     }
 
-    // Whether a Tick now moves the tick number alone: nobody waits, so that the first of greatest base is chosen, it is the thread reported, and
-    // none of the sixteen tick numbers is the next one. A No may be wrong, of a number that no sleeper waits for: then the Tick is made.
+    // Whether a Tick now moves the tick number alone: the chosen thread is the one reported, and none of the sixteen tick numbers is the next one.
+    // Ceilings are not asked for: where nobody waits or one section is held they decide nothing. A No may be wrong: then the Tick is made.
     pub(crate) fn is_still(self) -> bool
         requires { ⌜ Ticks self ⌝ }
         ensures { λ r. ⌜ Still r self ⌝ }
     {
         let w = self.waits;
-        if 0 < w.count {
+        let h = self.holds;
+        if 0 < w.count && 1 < h.count {
             return false;
         }
         let p = self.plan;
         let b = p.bases;
         let q = self.queue;
-        if q.chosen(b, 255, 0) != self.reported {
+        let none = [0u8; 16];
+        if choice::chosen_of(b, &none, q, h, w) != self.reported {
             return false;
         }
         let now = self.tick;
