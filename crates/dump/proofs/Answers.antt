@@ -7,7 +7,7 @@ use Prim.Native.Nat.{ℕ, _≤_}
 use lib.Dec.{T, leb, leb→le, eqb→eq}
 use lib.ListN.{length}
 use Rattle.model.proofs.Tests.{and-left, and-right}
-use Rattle.plan.proofs.Answers.{all-Yes}
+use Rattle.plan.proofs.Laws.{all-Yes}
 use Rattle.dump.specs.Layout.{recordCount}
 use Rattle.dump.specs.Questions.{mostRecords, hasCount, hasLength, hasKinds, hasOperands, questions, refusal, Whole}
 

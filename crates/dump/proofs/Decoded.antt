@@ -15,7 +15,7 @@ use Rattle.model.specs.Records.{Tick, Record, call, allowed}
 use Rattle.model.proofs.Tests.{split, and-left, and-right, and-both, equal?}
 use Rattle.model.proofs.Searches.{all-at, in-upTo}
 use Rattle.plan.specs.Bytes.{byte}
-use Rattle.plan.proofs.Loops.{listed, length-listed}
+use Rattle.model.proofs.Loops.{listed, length-listed}
 use Rattle.dump.specs.Layout.{recordCount, kindAt, operandAt, recordOf, decode, kindOf, operandOf, encode}
 use Rattle.dump.specs.Questions.{operandFits, refusal}
 use Rattle.dump.proofs.Words.{Stands, word-stands}

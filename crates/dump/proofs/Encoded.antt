@@ -13,10 +13,9 @@ use Rattle.model.specs.Plan.{Plan, threads}
 use Rattle.model.specs.Records.{Tick, Record, call, allowed}
 use Rattle.model.specs.Rules.{Question, firstNo}
 use Rattle.model.proofs.Tests.{is-true, and-left, and-right, and-both, eq-test}
-use Rattle.model.proofs.Searches.{all-append, upTo-at}
-use Rattle.model.proofs.Counting.{all-in}
+use Rattle.model.proofs.Searches.{all-append, upTo-at, all-in}
 use Rattle.plan.specs.Bytes.{byte, word}
-use Rattle.plan.proofs.Loops.{listed, length-listed}
+use Rattle.model.proofs.Loops.{listed, length-listed}
 use Rattle.dump.specs.Layout.{recordCount, kindAt, operandAt, recordOf, decode, kindOf, operandOf, twoBytes, operands, encode}
 use Rattle.dump.specs.Questions.{mostRecords, kindAllowed, operandFits, hasCount, hasLength, hasKinds, hasOperands, questions, refusal}
 use Rattle.dump.proofs.Words.{two-are-bytes, Stands, stands-word}

@@ -8,7 +8,7 @@ use lib.Dec.{T}
 use Rattle.model.specs.Searches.{upTo}
 use Rattle.model.proofs.Searches.{all-at, in-upTo}
 use Rattle.plan.specs.Bytes.{number}
-use Rattle.plan.proofs.Answers.{zero-none}
+use Rattle.plan.proofs.Laws.{zero-none}
 use Rattle.dump.specs.Layout.{recordCount, kindAt, operandAt}
 use Rattle.dump.specs.Questions.{kindAllowed, operandFits, hasKinds, hasOperands, questions, refusal, Whole}
 use Rattle.dump.proofs.Answers as answers

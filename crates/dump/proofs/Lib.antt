@@ -1,12 +1,12 @@
--- What holds of the layout, and the laws that the proofs share. Laws is what other crates may cite.
-pub mod Ranges
-pub mod Limits
-pub mod Answers
-pub mod Words
-pub mod Codec
-pub mod Readings
-pub mod Wider
-pub mod Encoded
-pub mod Decoded
-pub mod Places
+-- What holds of the layout. Open to other crates is Laws, which lists what they may cite; the rest is this crate's own.
+mod Ranges
+mod Limits
+mod Answers
+mod Words
+mod Codec
+mod Readings
+mod Wider
+mod Encoded
+mod Decoded
+mod Places
 pub mod Laws

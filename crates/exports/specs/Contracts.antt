@@ -5,10 +5,10 @@ use mathlib.Core.Option.{some}
 use Prim.Native.Nat.{ℕ}
 use Rattle.plan.specs.Bytes as plans
 use Rattle.plan.specs.Bytes.{number}
-use Rattle.monitor.specs.Watching.{refused, broken, begin, reply, after, watchedUnless}
-use Rattle.monitor.specs.Contracts.{seen, replyAs}
-use Rattle.monitor.specs.declared.live.Watch.{Watch}
-use Rattle.monitor.specs.declared.live.Reply.{Reply}
+use Rattle.live.specs.Watching.{refused, broken, begin, reply, after, watchedUnless}
+use Rattle.live.specs.Contracts.{seen, replyAs}
+use Rattle.live.specs.declared.live.Watch.{Watch}
+use Rattle.live.specs.declared.live.Reply.{Reply}
 use Rattle.exports.specs.Numbers.{replyNumber, replyDue}
 
 -- A state is made from a plan that passes 1 to 4, and carries it; on a refusal every watch state keeps its content.

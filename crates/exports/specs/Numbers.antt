@@ -2,7 +2,7 @@
 use Prim.Native.Nat.{ℕ}
 use Rattle.model.specs.Runs.{clean, breach}
 use Rattle.monitor.specs.Answers as verdicts
-use Rattle.monitor.specs.Watching as replies
+use Rattle.live.specs.Watching as replies
 use Rattle.kernel.specs.Answers as benches
 
 -- The whole check: `clean`, records, due; or `breach`, record from 0, rule; or `refused`, number.

@@ -8,13 +8,13 @@ ghost use Rattle.exports.specs.Numbers.{verdictNumber, verdictAt, verdic
 ghost use Rattle.exports.specs.Contracts.{Tells, Begins, Steps};
 use kernel::bench::Written;
 use kernel::bench::bench;
+use live::lent;
+use live::live::Begun;
+use live::live::Reply;
+use live::live::Watch;
+use live::live::begin;
 use monitor::check::Verdict;
 use monitor::check::check;
-use monitor::lent;
-use monitor::live::Begun;
-use monitor::live::Reply;
-use monitor::live::Watch;
-use monitor::live::begin;
 
 // The whole check of a plan and a dump. 0: clean, *at is the number of records and *due that of reports due. 1 to 8: that question refuses.
 // 21 to 30: that rule is broken, *at is the record, from 0. Rules out a breach told at record 0, and the reports due told as the records.

@@ -16,7 +16,7 @@ use Rattle.plan.specs.Bytes as plans
 use Rattle.plan.specs.Bytes.{number, threadCount, sectionCount, baseAt, planOf}
 use Rattle.plan.specs.View.{Made}
 use Rattle.plan.specs.declared.Plan.{Plan}
-use Rattle.plan.proofs.Loops.{length-listed}
+use Rattle.model.proofs.Loops.{length-listed}
 use Rattle.plan.proofs.Laws.{threads-view}
 use Rattle.dump.specs.Layout.{decode}
 use Rattle.dump.specs.Questions as dumps

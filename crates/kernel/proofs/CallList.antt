@@ -15,13 +15,11 @@ use Rattle.model.specs.Records.{Call, Tick, Record, call, report, allowed}
 use Rattle.model.specs.Bench.{callsOf}
 use Rattle.plan.specs.View as plans
 use Rattle.plan.specs.declared.Plan.{Plan}
-use Rattle.plan.proofs.Loops.{listed}
+use Rattle.model.proofs.Loops.{listed}
 use Rattle.plan.proofs.Laws.{threads-view, valid-fits}
 use Rattle.dump.specs.Layout.{recordCount, kindAt, operandAt, decode, kindOf, operandOf}
 use Rattle.dump.specs.Questions.{mostRecords, operandFits, refusal, Whole}
-use Rattle.dump.proofs.Laws.{isCallRecord, kind-back, operand-back, fits-kind, allowed-back}
-use Rattle.dump.proofs.Laws.{entryAt}
-use Rattle.dump.proofs.Laws.{decode-length, decoded-calls}
+use Rattle.dump.proofs.Laws.{isCallRecord, kind-back, operand-back, fits-kind, allowed-back, entryAt, decode-length, decoded-calls}
 use Rattle.dump.proofs.Laws as dumps
 use Rattle.kernel.specs.Contracts.{Passed}
 

@@ -1,8 +1,8 @@
 -- A run over the calls of a list: what is known after k calls, each made with the reports of earlier ones given.
-use mathlib.Core.Path.{_≡_, ap, sym, subst, _∙_}
+use mathlib.Core.Path.{_≡_, refl, ap, sym, subst, _∙_}
 use mathlib.Core.Logic.{_⊎_, inl, inr, _≢_}
 use mathlib.Core.Bool.{Bool, cond}
-use mathlib.Core.List.{List, [], _∷_, _++_, map, append-nil}
+use mathlib.Core.List.{List, [], _∷_, _++_, map, append-assoc, append-nil}
 use mathlib.Core.Option.{Option, none, some}
 use Prim.Native.Nat.{ℕ, _+_, _*_, _≤_, _<_}
 use native.Mathlib.Omega.{arith}
@@ -11,16 +11,13 @@ use lib.Dec.{T, eqb}
 use lib.ListN.{length, drop, length-append, length-map}
 use Rattle.model.specs.Plan as model
 use Rattle.model.specs.Records as records
-use Rattle.model.specs.Records.{Call, Create, Delay, Relinquish, End, Take, Give, Tick, call, report, allowed}
+use Rattle.model.specs.Records.{Call, call, report, allowed}
 use Rattle.model.specs.State as state
 use Rattle.model.specs.Priorities.{chosen}
 use Rattle.model.specs.Runs.{moved, broke, step}
-use Rattle.model.specs.Bench.{deliverAll, behind, benchFrom, bench}
-use Rattle.model.specs.Words.{tickOf}
+use Rattle.model.specs.Bench.{deliverAll, behind, benchFrom}
 use Rattle.model.proofs.Tests.{equal?}
-use Rattle.model.proofs.Performed.{moves}
-use Rattle.model.proofs.Dues.{tick-counts}
-use Rattle.model.proofs.Laws.{Reached, begin, next, reached-invariant, due-fits}
+use Rattle.model.proofs.Laws.{Reached, begin, next, due-fits, start-nobody, tick-at-most, bench-begins, bench-ended, bench-moved, bench-broke, settled-reached, settled-chosen}
 use Rattle.plan.specs.View as plans
 use Rattle.plan.specs.declared.Plan.{Plan}
 use Rattle.plan.proofs.Laws.{threads-view}
@@ -32,13 +29,22 @@ use Rattle.machine.proofs.Laws.{stands-formed, ceilings-of}
 use Rattle.dump.specs.Layout.{kindAt, operandAt, recordOf}
 use Rattle.dump.specs.Questions.{operandFits}
 use Rattle.dump.proofs.Laws.{fits-kind, entryAt}
-use Rattle.monitor.specs.declared.single.Stepped.{Stepped}
-use Rattle.monitor.specs.Contracts.{Single}
+use Rattle.walk.specs.declared.single.Stepped.{Stepped}
+use Rattle.walk.specs.Contracts.{Single}
 use Rattle.kernel.specs.Answers.{isMade, recordsOf}
 use Rattle.kernel.specs.Contracts.{Passed, Settles, madeOf}
 use Rattle.kernel.proofs.Giving.{IsFormed}
-use Rattle.kernel.proofs.Benching.{behind-nil, behind-both, bench-ended, bench-moved, bench-broke, settled-reached, chosen-settled}
 use Rattle.kernel.proofs.CallList.{calls, callAt, plan-fits, calls-few, calls-end, call-is, call-fits, call-next, call-allowed}
+
+-- records behind none, and behind others that are behind others
+
+behind-nil : (o : Option (List records.Record)) → behind [] o ≡ o
+behind-nil none = refl
+behind-nil (some rs) = refl
+
+behind-both : (a b : List records.Record) (o : Option (List records.Record)) → behind a (behind b o) ≡ behind (a ++ b) o
+behind-both a b none = refl
+behind-both a b (some rs) = ap {B = Option (List records.Record)} some (sym (append-assoc a b rs))
 
 -- after k calls: the state, the chosen thread, and the records so far; a call makes T + 1 reports at most, so 18 records
 pub record CallsMade (p : Plan) (list : List ℕ) (k : ℕ) (s : State) (who : ℕ) (done : List records.Record) : Type 0 where
@@ -51,15 +57,14 @@ pub record CallsMade (p : Plan) (list : List ℕ) (k : ℕ) (s : State) (who : �
 
 -- at the start nobody is chosen and nothing is written
 pub made-begin : (p : Plan) (list : List ℕ) (s : State) → Fresh s p → CallsMade p list 0 s 255 []
-unfolding bench chosen
 made-begin p list s f =
     record {
       plan' = f .plan';
       reached = subst (Reached (plans.view p)) (sym (f .seen)) begin;
       tick = omega (arith, ap (λ (st : state.State). st .tickNumber) (f .seen));
-      chosen' = ap (λ (st : state.State). numbered (chosen (plans.view p) st)) (sym (f .seen));
+      chosen' = ap numbered (sym (ap (chosen (plans.view p)) (f .seen) ∙ start-nobody (plans.view p)));
       few = omega arith;
-      so-far = ap (λ (st : state.State). benchFrom (plans.view p) st (calls list)) (sym (f .seen)) ∙ sym (behind-nil (benchFrom (plans.view p) (view s) (calls list)));
+      so-far = bench-begins (plans.view p) (calls list) ∙ ap (λ (st : state.State). benchFrom (plans.view p) st (calls list)) (sym (f .seen)) ∙ sym (behind-nil (benchFrom (plans.view p) (view s) (calls list)));
     }
 
 -- call k with its reports behind it
@@ -73,16 +78,6 @@ added-count done list k after = omega (arith, length-append done (added list k a
 behind-within : (rs : List records.Record) (o : Option (List records.Record)) → T (isMade (behind rs o)) → length rs ≤ length (recordsOf (behind rs o))
 behind-within rs none t = absurd t
 behind-within rs (some rest) t = omega (arith, length-append rs rest)
-
--- one record is one Tick at most
-tick-one : (k : Call) → tickOf (some (call k)) ≤ 1
-tick-one (Create t) = omega arith
-tick-one (Delay n) = omega arith
-tick-one Relinquish = omega arith
-tick-one End = omega arith
-tick-one (Take s) = omega arith
-tick-one (Give s) = omega arith
-tick-one Tick = omega arith
 
 module _ {p : Plan} {ceilings list : List ℕ} {n : ℕ} (passed : Passed p ceilings list n) {k : ℕ} {s : State} {who : ℕ} {done : List records.Record} (m : CallsMade p list k s who done) where
   -- after the last call the records so far are all
@@ -160,9 +155,7 @@ module _ {p : Plan} {ceilings list : List ℕ} {n : ℕ} (passed : Passed p ceil
             moves-call
 
         tick-after : view (o .state) .tickNumber ≤ k + 1
-        tick-after =
-            let c = reached-invariant (plans.view p) (view s) (m .reached) .sound in
-            omega (arith, m .tick, tick-one (callAt list k), tick-counts (plans.view p) (view s) c (moves (plans.view p) (view s) c (call (callAt list k)) (view (o .state)) moves-call))
+        tick-after = omega (arith, m .tick, tick-at-most (plans.view p) (view s) (m .reached) (call (callAt list k)) (view (o .state)) moves-call)
 
         pub made-due : length (view (o .state) .due) ≤ 17
         made-due = omega (arith, due-fits (plans.view p) (view (o .state)) reached-call, threads-view p, plan-fits passed .threads)
@@ -198,7 +191,7 @@ module _ {p : Plan} {ceilings list : List ℕ} {n : ℕ} (passed : Passed p ceil
               tick = omega (arith, tick-after, ap (λ (st : state.State). st .tickNumber) (e .seen));
               chosen' =
                   a .chosen' ∙ ap (λ (q : Plan). numbered (chosen (plans.view q) after)) (m .plan')
-                  ∙ ap numbered (sym (chosen-settled v after) ∙ ap (chosen v) (sym (e .seen)));
+                  ∙ ap numbered (sym (settled-chosen v after) ∙ ap (chosen v) (sym (e .seen)));
               few = omega (arith, m .few, made-due, added-count done list k after);
               so-far = later ∙ ap (λ (st : state.State). behind (done ++ added list k (view (o .state))) (benchFrom v st (drop (k + 1) (calls list)))) (sym (e .seen));
             }

@@ -17,15 +17,12 @@ use Rattle.model.proofs.Tests.{and-left, and-right, and-both}
 use Rattle.model.proofs.Laws.{clean-count, bench-clean, clean-is-bench}
 use Rattle.plan.specs.Bytes as plans
 use Rattle.plan.specs.Bytes.{threadCount, sectionCount, baseAt, planOf}
-use Rattle.plan.proofs.Loops.{length-listed}
-use Rattle.plan.proofs.Answers.{accepted, whole}
-use Rattle.plan.proofs.Laws.{refusal-none-valid}
+use Rattle.model.proofs.Loops.{length-listed}
+use Rattle.plan.proofs.Laws.{accepted, whole, refusal-none-valid}
 use Rattle.dump.specs.Layout.{decode, encode}
 use Rattle.dump.specs.Questions as dumps
 use Rattle.dump.specs.Questions.{mostRecords}
-use Rattle.dump.proofs.Laws.{isCallRecord}
-use Rattle.dump.proofs.Laws.{decode-encode, encode-passes, encode-passes-calls}
-use Rattle.dump.proofs.Laws.{decode-length, decoded-allowed, encode-decode}
+use Rattle.dump.proofs.Laws.{isCallRecord, decode-encode, encode-passes, encode-passes-calls, decode-length, decoded-allowed, encode-decode}
 use Rattle.dump.proofs.Laws as dump-laws
 use Rattle.kernel.specs.Answers.{wrote, made, isMade, recordsOf, bytesFor, answer, inFront, output}
 use Rattle.kernel.proofs.Answering.{Answers, all-pass}

@@ -13,7 +13,7 @@ use Rattle.model.specs.State.{State, switchedTo, latestSwitch, setReported, set
 use Rattle.model.specs.Runs.{deliver}
 use Rattle.model.specs.Formed.{formed}
 use Rattle.model.specs.Bench.{deliverAll}
-use Rattle.model.proofs.Laws.{WellFormed, passes-all}
+use Rattle.model.proofs.Laws.{WellFormed, passes-all, given-none}
 use Rattle.plan.specs.View as plans
 use Rattle.plan.specs.declared.Plan as declared
 use Rattle.machine.specs.declared.state.State as code
@@ -56,10 +56,6 @@ module _ (p : Plan) (st : State) (d : Report) (q : st .due ≡ d ∷ tail (st .d
 pub none-left : (l : List Report) → length l ≤ 0 → l ≡ []
 none-left [] h = refl
 none-left (d ∷ l) h = absurd (omega arith)
-
--- with nothing due there is nothing to give
-given-none : (st : State) → st .due ≡ [] → deliverAll st ≡ st
-given-none st q = λ i. st ▷ setReported (latestSwitch (st .reported) (q i)) ▷ setDue (sym q i)
 
 abbrev pub IsFormed : code.State → Type 0
 IsFormed s = T (formed (planOf (s .machine)) (view s))

@@ -1,13 +1,12 @@
--- What holds of the bench kernel, and the laws that its proofs share. Laws is what other crates may cite.
-pub mod Giving
-pub mod ReportBytes
-pub mod Putting
-pub mod Benching
-pub mod CallList
-pub mod CallsMade
-pub mod Placing
-pub mod Answering
-pub mod Wrote
-pub mod Dumped
+-- What holds of the bench kernel. Open to other crates is Laws, which lists what they may cite; the rest is this crate's own.
+mod Giving
+mod ReportBytes
+mod Putting
+mod CallList
+mod CallsMade
+mod Placing
+mod Answering
+mod Wrote
+mod Dumped
+mod Watched
 pub mod Laws
-pub mod Watched

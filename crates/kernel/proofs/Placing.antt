@@ -12,8 +12,7 @@ use Rattle.model.specs.Records.{Record}
 use Rattle.model.proofs.Tests.{split, equal?}
 use Rattle.plan.specs.Bytes.{byte}
 use Rattle.dump.specs.Layout.{kindOf, operandOf, encode}
-use Rattle.dump.proofs.Laws.{Stands}
-use Rattle.dump.proofs.Laws.{recordAt, encode-length, count-stands, encode-kind, operand-stands}
+use Rattle.dump.proofs.Laws.{Stands, recordAt, encode-length, count-stands, encode-kind, operand-stands}
 use Rattle.kernel.specs.Answers.{bytesFor, inFront}
 use Rattle.kernel.specs.Contracts.{placed, placedFrom}
 

@@ -1,36 +1,29 @@
 -- The bench kernel and the watch: what the one writes the other finds clean with nothing due, and every such dump is written so.
-use mathlib.Core.Path.{_≡_, ap, ap₂, subst, _∙_}
+use mathlib.Core.Path.{_≡_, subst}
 use mathlib.Core.Bool.{false}
 use mathlib.Core.List.{List, map}
-use mathlib.Core.Option.{Option, none}
+use mathlib.Core.Option.{none}
 use Prim.Native.Nat.{ℕ, _≤_}
 use lib.Dec.{T, ltb}
 use lib.ListN.{length, take}
 use Rattle.model.specs.Searches.{all}
 use Rattle.model.specs.Records.{call}
-use Rattle.model.specs.Runs.{Verdict, clean, judge}
+use Rattle.model.specs.Runs.{clean}
 use Rattle.model.specs.Bench.{callsOf}
-use Rattle.plan.specs.Bytes as plans
-use Rattle.plan.specs.Bytes.{baseAt, threadCount, sectionCount, planOf}
-use Rattle.plan.proofs.Loops.{length-listed}
+use Rattle.plan.specs.Bytes.{baseAt, threadCount, sectionCount}
+use Rattle.model.proofs.Loops.{length-listed}
 use Rattle.dump.specs.Layout.{decode, encode}
 use Rattle.dump.specs.Questions as dumps
-use Rattle.monitor.specs.Answers as watch
-use Rattle.monitor.specs.Answers.{judged, orElse, firstRefusal, check}
-use Rattle.monitor.proofs.Laws.{judged-passed}
+use Rattle.monitor.specs.Answers.{judged, check}
+use Rattle.monitor.proofs.Laws.{judged-passed, unrefused-judged}
 use Rattle.kernel.specs.Answers.{wrote, bytesFor, answer, output}
 use Rattle.kernel.proofs.Wrote.{wrote-all}
 use Rattle.kernel.proofs.Laws.{written-clean, written-passes, clean-written}
 
--- where nothing is refused the whole check answers the verdict
-judges : (plan dump : List ℕ) (v : Verdict) → plans.refusal plan ≡ none → dumps.refusal (threadCount plan) (sectionCount plan) false dump ≡ none → judge (planOf plan) (decode dump) ≡ v → check plan dump ≡ judged v
-unfolding check firstRefusal
-judges plan dump v p d e = ap₂ (λ (a b : Option ℕ). watch.answer (orElse a b) (judge (planOf plan) (decode dump))) p d ∙ ap judged e
-
 -- For every call list that it accepts, the watch finds what it wrote clean with none due.
 pub watch-finds-clean : (plan list out : List ℕ) (n : ℕ) → answer plan list (length out) ≡ wrote n → check plan (take (bytesFor n) (output plan list out)) ≡ judged (clean n 0)
 watch-finds-clean plan list out n e =
-    judges plan (take (bytesFor n) (output plan list out)) (clean n 0) (wrote-all plan list out n e .plan-yes) (written-passes plan list out n e) (written-clean plan list out n e)
+    unrefused-judged plan (take (bytesFor n) (output plan list out)) (clean n 0) (wrote-all plan list out n e .plan-yes) (written-passes plan list out n e) (written-clean plan list out n e)
 
 -- Every dump that the watch finds clean with none due is what the bench kernel writes for that dump's own calls.
 pub found-clean-is-written : (plan dump out : List ℕ) (n : ℕ) → T (all (λ b. ltb b 256) dump) → check plan dump ≡ judged (clean n 0) → length dump ≤ length out

@@ -13,7 +13,7 @@ use Rattle.model.specs.Rules.{firstNo}
 use Rattle.model.proofs.Tests.{and-left, and-right}
 use Rattle.plan.specs.Bytes as plans
 use Rattle.plan.specs.Bytes.{threadCount, sectionCount}
-use Rattle.plan.proofs.Answers.{all-Yes}
+use Rattle.plan.proofs.Laws.{all-Yes}
 use Rattle.dump.specs.Layout.{encode}
 use Rattle.dump.specs.Questions as dumps
 use Rattle.dump.specs.Questions.{mostRecords}

@@ -5,8 +5,8 @@ ghost use Rattle.machine.specs.View.{planOf, view};
 ghost use Rattle.kernel.specs.Contracts.{Passed, Settles, Counts, madeOf};
 use dump::layout::entry_at;
 use machine::state::State;
-use monitor::single::step;
 use plan::Plan;
+use walk::single::step;
 
 // Whether every call is admitted, and how many records there are, 0 where one is not.
 pub struct Counted {

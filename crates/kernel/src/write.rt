@@ -11,8 +11,8 @@ ghost use Rattle.kernel.specs.Contracts.{Passed, madeOf, placed, Reports
 use dump::layout::entry_at;
 use machine::reports::Report;
 use machine::state::State;
-use monitor::single::step;
 use plan::Plan;
+use walk::single::step;
 
 // A state, and how many records are written.
 pub struct Placed {

@@ -1,5 +1,5 @@
--- What holds of packed words, and the laws that the proofs of the lists share. Laws is what other crates may cite.
-pub mod Words
-pub mod Holdings
-pub mod Queues
+-- What holds of packed words. Open to other crates is Laws, which lists what they may cite; the rest is this crate's own.
+mod Words
+mod Holdings
+mod Queues
 pub mod Laws

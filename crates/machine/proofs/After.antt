@@ -14,7 +14,7 @@ use Rattle.model.specs.Records.{Ready, Won, Lost, Yield}
 use Rattle.model.specs.State.{Condition, dormant, asleep, waiting, State, condition, latestSwitch, lastReported, becomes, leaveQueue, joinQueue, arrive, joinWaits, leaveWaits, isHold, beginHold, endHold, owe}
 use Rattle.model.specs.Calls.{create, sleepers, tick, delay, rivalled, relinquish, end, aboveAll, heldByOthers, take, wanted, heir, handOver, give}
 use Rattle.model.proofs.Searches.{greatest-is, stayed, distinct-without}
-use Rattle.model.proofs.Kept.{sleeper}
+use Rattle.model.proofs.Laws.{sleeper}
 use Rattle.plan.specs.View as plans
 use Rattle.plan.specs.declared.Plan.{Plan}
 use Rattle.plan.proofs.Laws.{threads-view}

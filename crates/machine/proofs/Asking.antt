@@ -13,8 +13,7 @@ use Rattle.model.specs.State.{condition}
 use Rattle.model.specs.Priorities.{chosen}
 use Rattle.model.specs.Rules.{isSomebody, askCaller, holdsNot, lastTaken, questions}
 use Rattle.model.proofs.Tests.{same-eq}
-use Rattle.model.proofs.Nesting.{chosen-is}
-use Rattle.model.proofs.Performed.{AllYes, somebody, dormant-is}
+use Rattle.model.proofs.Laws.{chosen-is, AllYes, somebody, dormant-is}
 use Rattle.machine.specs.declared.Machine.{Machine}
 use Rattle.lists.specs.Lists.{numbered, held}
 use Rattle.machine.specs.View.{planOf, idle}

@@ -16,11 +16,10 @@ use Rattle.model.specs.Priorities.{heldCeiling, greatestHold, current, chosen}
 use Rattle.model.specs.Calls.{aboveAll, rivalled}
 use Rattle.model.proofs.Tests.{split}
 use Rattle.model.proofs.Searches.{greatest-is}
-use Rattle.model.proofs.Ceiling.{ceiling-attained}
-use Rattle.model.proofs.Bounds.{queue-fits, waits-fit, sections-fit, mayTake-below}
+use Rattle.model.proofs.Laws.{ceiling-attained, queue-fits, waits-fit, sections-fit, mayTake-below}
 use Rattle.plan.specs.declared.Plan.{Plan}
 use Rattle.plan.specs.View.{baseIn, view}
-use Rattle.plan.proofs.Loops.{unlisted}
+use Rattle.model.proofs.Loops.{unlisted}
 use Rattle.plan.proofs.Laws.{threads-view, valid-fits, ceilings-at, base-at, base-positive}
 use Rattle.machine.specs.declared.Machine.{Machine}
 use Rattle.lists.specs.declared.queue.Queue.{Queue}

@@ -8,8 +8,7 @@ use Rattle.model.specs.Plan.{validPlan}
 use Rattle.model.specs.State.{waiting, Hold, condition}
 use Rattle.model.specs.Formed.{lastTick}
 use Rattle.model.proofs.Searches.{Pairwise}
-use Rattle.model.proofs.Invariant.{OtherSection, Agree}
-use Rattle.model.proofs.Formed.{well-formed}
+use Rattle.model.proofs.Laws.{OtherSection, Agree, well-formed}
 use Rattle.plan.specs.View.{Fits}
 use Rattle.plan.proofs.Laws.{threads-view, valid-fits}
 use Rattle.machine.specs.declared.Machine.{Machine}

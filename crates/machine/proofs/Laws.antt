@@ -18,7 +18,7 @@ use Rattle.plan.specs.declared.Plan.{Plan}
 use Rattle.machine.specs.declared.Machine.{Machine}
 use Rattle.machine.specs.declared.state.State.{State}
 use Rattle.machine.specs.View.{planOf, view}
-use Rattle.machine.specs.Contracts.{Ceilings, Chooses}
+use Rattle.machine.specs.Contracts.{Counts, Formed, Ceilings, Chooses}
 use Rattle.machine.specs.Steps.{Answers}
 use Rattle.machine.proofs.Views.{sized}
 use Rattle.machine.proofs.Facts.{facts}
@@ -28,8 +28,12 @@ use Rattle.machine.proofs.Owing.{unowed}
 pub use Rattle.machine.proofs.ReportKinds.{by-kind, kind-is}
 -- who is chosen does not depend on what is due
 pub use Rattle.machine.proofs.Switched.{chosen-due}
+-- which condition a number names, and that of a thread of the plan
+pub use Rattle.machine.proofs.Conditions.{at-none, by-state}
+pub use Rattle.machine.proofs.Views.{condition-at}
 -- the arrays of a state and of what a call hands back have room for T + 1 reports, and those due stand within
-pub use Rattle.machine.proofs.Sized.{due-size, called-size}
+pub use Rattle.machine.proofs.Sized.{reports-size, due-size, called-size}
+pub use Rattle.machine.proofs.Views.{length-owed}
 pub use Rattle.machine.proofs.Owing.{due-fits}
 -- what becomes of the state by a report given and by a Tick that wakes nobody, and up to which tick number nobody wakes
 pub use Rattle.machine.proofs.InPlace.{Told, Passes, told-told, passed-passes}
@@ -44,6 +48,10 @@ stands-formed s v r k = reached-formed (planOf (s .machine)) v (view s) r k
 -- what a well-formed state tells, in the model's words
 pub formed-facts : (s : State) → T (formed (planOf (s .machine)) (view s)) → WellFormed (planOf (s .machine)) (view s)
 formed-facts s f = well-formed (planOf (s .machine)) (view s) (sized (s .machine)) f
+
+-- the lists of a well-formed machine are within their words
+pub counts-within : {m : Machine} → Formed m → Counts (m .queue) (m .holds) (m .waits)
+counts-within f = listed (facts f) .counts
 
 -- in a well-formed state the chosen thread can be asked for, with the ceilings of its plan beside it
 pub asks-chosen : (s : State) (ceilings : List ℕ) → T (formed (planOf (s .machine)) (view s)) → Ceilings (s .machine) ceilings → Chooses (s .machine) ceilings

@@ -1,28 +1,24 @@
--- What holds of this crate's definitions, and the laws that its proofs share. Laws is what other crates may cite.
-pub mod Arrays
-pub mod Sized
-pub mod Conditions
-pub mod Calm
-pub mod Standing
-pub mod Heirs
-pub mod Views
-pub mod Facts
-pub mod Admitted
-pub mod Room
-pub mod Chosen
-pub mod Meets
-pub mod Switched
-pub mod Woken
-pub mod Quieted
-pub mod Stilled
-pub mod After
-pub mod Outside
-pub mod Lent
-pub mod ReportKinds
-pub mod InPlace
-pub mod Owing
-pub mod Questions
-pub mod Unbroken
-pub mod Asking
-pub mod Outcomes
+-- What holds of this crate's definitions. Open to other crates is Laws, which lists what they may cite; the rest is this crate's own.
+mod Arrays
+mod Sized
+mod Conditions
+mod Heirs
+mod Views
+mod Facts
+mod Admitted
+mod Room
+mod Chosen
+mod Meets
+mod Switched
+mod Woken
+mod Quieted
+mod Stilled
+mod After
+mod ReportKinds
+mod InPlace
+mod Owing
+mod Questions
+mod Unbroken
+mod Asking
+mod Outcomes
 pub mod Laws

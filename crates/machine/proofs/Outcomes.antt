@@ -21,7 +21,7 @@ use Rattle.model.specs.Calls.{tick, delay, relinquish, end, take, give, perform
 use Rattle.model.specs.Rules.{firstNo, broken}
 use Rattle.model.specs.Runs.{moved, broke, outcome, deliver, effect, step}
 use Rattle.model.proofs.Tests.{equal?}
-use Rattle.model.proofs.Nesting.{chosen-is}
+use Rattle.model.proofs.Laws.{chosen-is}
 use Rattle.plan.specs.View as plans
 use Rattle.plan.proofs.Laws.{threads-view}
 use Rattle.machine.specs.declared.Machine.{Machine}

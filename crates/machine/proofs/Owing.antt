@@ -13,8 +13,8 @@ use Rattle.model.specs.Plan.{threads, validPlan}
 use Rattle.model.specs.Priorities.{chosen}
 use Rattle.model.specs.Formed.{numbersInRange, heldOnce, allStandOnce, dueInRange, formed}
 use Rattle.model.proofs.Tests.{split, and-left, and-both}
-use Rattle.model.proofs.Formed.{well-formed}
-use Rattle.plan.proofs.Loops.{listed}
+use Rattle.model.proofs.Laws.{well-formed}
+use Rattle.model.proofs.Loops.{listed}
 use Rattle.plan.proofs.Laws.{threads-view}
 use Rattle.machine.specs.declared.reports.Reports.{Reports}
 use Rattle.machine.specs.declared.state.State.{State}

@@ -16,8 +16,8 @@ use Rattle.model.specs.Records.{Call, Create, Delay, Relinquish, End, Take, Giv
 use Rattle.model.specs.Calls.{create, sleepsUntil, sleepers, tick, rivalled, relinquish, end, aboveAll, heldByOthers, take, heir, handOver, give, byCaller, perform}
 use Rattle.model.proofs.Tests.{split}
 use Rattle.model.proofs.Searches.{filtered, upTo-at}
-use Rattle.model.proofs.Invariant.{tag}
-use Rattle.plan.proofs.Loops.{length-listed, unlisted}
+use Rattle.model.proofs.Laws.{tag}
+use Rattle.model.proofs.Loops.{length-listed, unlisted}
 use Rattle.machine.specs.declared.Machine.{Machine}
 use Rattle.machine.specs.declared.calls.Called.{Called}
 use Rattle.machine.specs.declared.slots.Slots.{Slots}

@@ -16,12 +16,7 @@ use Rattle.model.specs.Calls.{sleepsUntil, sleepers, aboveAll, heldByOthers}
 use Rattle.model.specs.Formed.{times}
 use Rattle.model.proofs.Tests.{and-both, eq-test, ne-test, equal?}
 use Rattle.model.proofs.Searches.{all-at, any-fails, filtered, in-filter, Pairwise, pairwise-filter, pairwise-append, pairwise-at, Distinct, stayed, distinct-without, upTo-distinct, pigeonhole}
-use Rattle.model.proofs.Ceiling.{ceiling-ge}
-use Rattle.model.proofs.Invariant.{tag, OtherSection}
-use Rattle.model.proofs.Nesting.{chosen-is}
-use Rattle.model.proofs.Kept.{sleeper}
-use Rattle.model.proofs.Bounds.{queued-below, waiting-below, sections-fit}
-use Rattle.model.proofs.Give.{last-held}
+use Rattle.model.proofs.Laws.{ceiling-ge, tag, OtherSection, chosen-is, sleeper, queued-below, waiting-below, sections-fit, last-held}
 use Rattle.plan.proofs.Laws.{threads-view}
 use Rattle.machine.specs.declared.Machine.{Machine}
 use Rattle.lists.specs.Lists.{queued, held}

@@ -14,7 +14,7 @@ use Rattle.model.specs.State.{Hold}
 use Rattle.model.proofs.Tests.{from-true, and-left, and-right, test-ne}
 use Rattle.model.proofs.Searches.{in-upTo}
 use Rattle.plan.specs.View.{inUse}
-use Rattle.plan.proofs.Loops.{all-of-more}
+use Rattle.model.proofs.Loops.{all-of-more}
 use Rattle.lists.specs.Words.{nibble, entryOf}
 use Rattle.lists.specs.Lists.{numbered, queued, held}
 use Rattle.lists.proofs.Laws.{queued-empty, length-held}

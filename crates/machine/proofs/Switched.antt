@@ -13,7 +13,7 @@ use Rattle.model.specs.Records.{Report, Switch}
 use Rattle.model.specs.Priorities.{greatestHold, current, chosen}
 use Rattle.model.specs.Calls.{switch}
 use Rattle.model.proofs.Tests.{split, is-true, is-false, same-eq, same-refl}
-use Rattle.model.proofs.Nesting.{chosen-is}
+use Rattle.model.proofs.Laws.{chosen-is}
 use Rattle.machine.specs.declared.reports.Reports.{Reports}
 use Rattle.machine.specs.declared.Machine.{Machine}
 use Rattle.machine.specs.declared.calls.Called.{Called}

@@ -8,8 +8,8 @@ use Rattle.model.specs.Records as records
 use Rattle.model.specs.Records.{call}
 use Rattle.model.specs.State as state
 use Rattle.model.specs.Rules.{Question, questions, broken}
-use Rattle.model.proofs.Performed.{AllYes, all-yes}
-use Rattle.plan.proofs.Answers.{zero-none}
+use Rattle.model.proofs.Laws.{AllYes, all-yes}
+use Rattle.plan.proofs.Laws.{zero-none}
 use Rattle.machine.specs.Rules.{ruleNumber}
 
 -- no question has the number 0, so the answer 0 says that no rule is broken, and every question has the answer Yes

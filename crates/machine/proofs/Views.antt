@@ -13,7 +13,7 @@ use Rattle.model.specs.Searches.{upTo, same}
 use Rattle.model.specs.Plan.{threads}
 use Rattle.model.specs.State.{dormant, asleep, waiting}
 use Rattle.model.proofs.Tests.{equal?}
-use Rattle.plan.proofs.Loops.{listed, length-listed}
+use Rattle.model.proofs.Loops.{listed, length-listed}
 use Rattle.plan.proofs.Laws.{threads-view}
 use Rattle.machine.specs.declared.Machine.{Machine}
 use Rattle.machine.specs.declared.reports.Reports.{Reports}

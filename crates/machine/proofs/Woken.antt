@@ -12,7 +12,7 @@ use Rattle.model.specs.State.{Condition, ready, condition, allReady}
 use Rattle.model.specs.Records.{Ready}
 use Rattle.model.specs.Calls.{sleepsUntil, sleepers}
 use Rattle.model.proofs.Tests.{split, is-true, is-false}
-use Rattle.plan.proofs.Loops.{length-listed}
+use Rattle.model.proofs.Loops.{length-listed}
 use Rattle.machine.specs.declared.slots.Slots.{Slots}
 use Rattle.lists.specs.declared.queue.Queue.{Queue}
 use Rattle.machine.specs.declared.reports.Reports.{Reports}
@@ -23,8 +23,7 @@ use Rattle.machine.specs.View.{conditionIn, conditionsOf, idle}
 use Rattle.machine.specs.Contracts.{placed}
 use Rattle.machine.proofs.Facts.{Facts}
 use Rattle.machine.proofs.Arrays.{upTo-more, map-append}
-use Rattle.lists.proofs.Laws.{filter-kept, filter-dropped}
-use Rattle.lists.proofs.Laws.{length-queued}
+use Rattle.lists.proofs.Laws.{filter-kept, filter-dropped, length-queued}
 use Rattle.machine.proofs.Views.{condition-at, placed-seen}
 use Rattle.machine.proofs.Room.{woken-room}
 use Rattle.machine.proofs.Meets.{owed-count}

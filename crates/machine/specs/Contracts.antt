@@ -4,7 +4,7 @@ use mathlib.Core.Bool.{Bool, true, false, cond, not, _&&_}
 use mathlib.Core.List.{List, [], _∷_, map, List·Memᴰ as Mem}
 use mathlib.Core.Option.{Option, none, some, Option·map}
 use Prim.Native.Nat.{ℕ, _+_, max, min, _≤_, _<_}
-use lib.Dec.{T, eqb, leb, ltb}
+use lib.Dec.{T, eqb, ltb}
 use Rattle.model.specs.Searches.{all, any, firstGreatest, greatest, same, upTo}
 use Rattle.model.specs.Plan as plan
 use Rattle.model.specs.State as state
@@ -13,12 +13,12 @@ use Rattle.model.specs.Priorities.{chosen}
 use Rattle.model.specs.Records as records
 use Rattle.model.specs.Calls.{tick, perform}
 use Rattle.model.specs.Rules.{broken}
-use Rattle.model.specs.Formed.{formed, times, lastTick, lastWake}
+use Rattle.model.specs.Formed.{formed, lastTick, lastWake}
 use Rattle.plan.specs.View as plans
 use Rattle.plan.specs.declared.Plan.{Plan}
 use Rattle.lists.specs.declared.queue.Queue.{Queue}
 use Rattle.lists.specs.declared.holds.Holds.{Holds}
-use Rattle.lists.specs.Words.{nibble, withNibble}
+use Rattle.lists.specs.Words.{withNibble}
 use Rattle.lists.specs.Lists.{numbered, queued, ceilingIn}
 use Rattle.machine.specs.declared.Machine.{Machine}
 use Rattle.machine.specs.declared.slots.Slots.{Slots}
@@ -56,10 +56,6 @@ placed s t k = record { states = withNibble (s .states) t k; wants = s .wants }
 abbrev pub waitsFor : Slots → (thread section : ℕ) → Slots
 waitsFor s t n = record { states = withNibble (s .states) t 3; wants = withNibble (s .wants) t n }
 
--- a thread of this condition's number stands once in the queue if it is ready, once in the waits if it waits, and nowhere else
-abbrev pub standsBy : (queue waits : List ℕ) (state thread : ℕ) → Bool
-standsBy q ws s t = eqb (times (λ u. eqb u t) q) (cond (eqb s 1) 1 0) && eqb (times (λ u. eqb u t) ws) (cond (leb 3 s) 1 0)
-
 -- the counts are within the words
 pub record Counts (queue : Queue) (holds : Holds) (waits : Queue) : Type 0 where
   pub queue' : queue .count ≤ 16
@@ -76,19 +72,6 @@ pub record Listed (threads : ℕ) (queue : Queue) (holds : Holds) (waits : Queue
 -- A machine with nothing due is well formed: the answer is not 12. Every method asks for this, and for what the rules of its call say.
 pub record Formed (m : Machine) : Type 0 where
   pub passes : T (formed (planOf m) (idle m))
-
--- the counts of a machine are within their arrays and words
-pub record Counted (m : Machine) : Type 0 where
-  pub fits : plans.Fits (m .plan)
-  pub counts : Counts (m .queue) (m .holds) (m .waits)
-
--- each thread stands where its condition says
-abbrev pub Stood : Machine → Type 0
-Stood m = all (λ t. standsBy (queued (m .queue)) (queued (m .waits)) (nibble (m .slots .states) t) t) (upTo (m .plan .threads)) ≡ true
-
--- no thread waits, and every number names a condition
-abbrev pub Calm : (states threads : ℕ) → Type 0
-Calm states n = all (λ t. ltb (nibble states t) 3) (upTo n) ≡ true
 
 -- the ceilings of the machine's plan, computed once and passed beside it
 abbrev pub Ceilings : Machine → List ℕ → Type 0

@@ -6,7 +6,6 @@ pub mod choice; // choice.rt: owner, current priority, chosen thread, heir
 pub mod calls; // calls.rt: what each call does
 pub mod state; // state.rt: a machine with the reports that it owes
 pub mod rules; // rules.rt: the questions asked of a record
-pub mod formed; // formed.rt: answer 12, of a state that came from outside
 
 use lists::holds::Holds;
 use lists::queue::Queue;

@@ -1,14 +1,13 @@
 // The conditions of the threads.
 ghost use mathlib.Core.Path.{_≡_};
-ghost use mathlib.Core.Bool.{true, cond, not, _&&_};
+ghost use mathlib.Core.Bool.{not, _&&_};
 ghost use Prim.Native.Nat.{_≤_, _<_};
-ghost use lib.Dec.{eqb, leb};
+ghost use lib.Dec.{eqb};
 ghost use Rattle.model.specs.Searches.{all};
-ghost use Rattle.model.specs.Formed.{lastWake, conditionInRange};
 ghost use Rattle.plan.specs.View.{inUse};
 ghost use Rattle.lists.specs.Words.{nibble};
-ghost use Rattle.machine.specs.View.{conditionOf, conditionsOf};
-ghost use Rattle.machine.specs.Contracts.{placed, waitsFor, Calm, soonest};
+ghost use Rattle.machine.specs.View.{conditionsOf};
+ghost use Rattle.machine.specs.Contracts.{placed, waitsFor, soonest};
 use crate::time::LAST_WAKE;
 use crate::time::Tick;
 use lists::nibbles::nibble_at;
@@ -60,34 +59,6 @@ impl Slots {
         nibble_at(self.wants, thread)
     }
 
-    // Whether each names a condition, and its tick number or section is in range.
-    pub(crate) fn in_range(self, wakes: [u32; 16], threads: usize, sections: usize) -> bool
-        requires { ⌜ (threads ≤ 16) × (sections ≤ 16) ⌝ }
-        ensures { λ r. ⌜ r ≡ all (conditionInRange sections) (conditionsOf threads self wakes) ⌝ }
-    {
-        let mut t: usize = 0;
-        while t < threads {
-            let state = nibble_at(self.states, t as u8);
-            let want = nibble_at(self.wants, t as u8);
-            if !slot_in_range(state, want, wakes[t], sections) {
-                return false;
-            }
-            t += 1;
-        }
-        true
-    }
-
-    // The same, where `calm` says that no thread waits: then the tick numbers alone are left to ask, of all sixteen at once.
-    pub(crate) fn fit(self, wakes: [u32; 16], calm: bool, threads: usize, sections: usize) -> bool
-        requires { ⌜ (threads ≤ 16) × (sections ≤ 16) × (calm ≡ true → Calm (self .states) threads) ⌝ }
-        ensures { λ r. ⌜ r ≡ all (conditionInRange sections) (conditionsOf threads self wakes) ⌝ }
-    {
-        if calm && in_time(wakes) {
-            return true;
-        }
-        self.in_range(wakes, threads, sections)
-    }
-
     // The least tick number that a sleeper waits for, LAST_WAKE where nobody sleeps before it.
     pub(crate) fn soonest(self, wakes: [u32; 16], threads: usize) -> u32
         requires { ⌜ threads ≤ 16 ⌝ }
@@ -114,22 +85,7 @@ pub(crate) fn sleeps_until(state: u8, wake: u32, number: Tick) -> bool
     state == 2 && wake == number.0
 }
 
-// Whether none of sixteen tick numbers is above the greatest that a sleeper waits for: asked at once, without an early end.
-pub(crate) fn in_time(wakes: [u32; 16]) -> bool
-    ensures { λ r. ⌜ r ≡ all (λ n. leb n lastWake) (inUse 16 wakes) ⌝ }
-{
-    let mut pass = true;
-    let mut t: usize = 0;
-    while t < 16 {
-        if LAST_WAKE < wakes[t] {
-            pass = false;
-        }
-        t += 1;
-    }
-    pass
-}
-
-// Whether none of them is this one, in the same way.
+// Whether none of sixteen tick numbers is this one: asked at once, without an early end.
 pub(crate) fn nobody_wakes(wakes: [u32; 16], number: Tick) -> bool
     ensures { λ r. ⌜ r ≡ all (λ n. not (eqb n (number .0))) (inUse 16 wakes) ⌝ }
 {
@@ -142,32 +98,4 @@ pub(crate) fn nobody_wakes(wakes: [u32; 16], number: Tick) -> bool
         t += 1;
     }
     none
-}
-
-// How often a thread in this condition stands in the queue.
-pub(crate) fn in_queue(state: u8) -> u8
-    ensures { λ r. ⌜ r ≡ cond (eqb state 1) 1 0 ⌝ }
-{
-    if state == 1 { 1 } else { 0 }
-}
-
-// And in the waits.
-pub(crate) fn in_waits(state: u8) -> u8
-    ensures { λ r. ⌜ r ≡ cond (leb 3 state) 1 0 ⌝ }
-{
-    if 3 <= state { 1 } else { 0 }
-}
-
-// Whether the number names a condition, and its tick number or section is in range.
-fn slot_in_range(state: u8, want: u8, wake: u32, sections: usize) -> bool
-    requires { ⌜ sections ≤ 16 ⌝ }
-    ensures { λ r. ⌜ r ≡ conditionInRange sections (conditionOf state want wake) ⌝ }
-{
-    if state == 2 {
-        wake <= LAST_WAKE
-    } else if state == 3 {
-        (want as usize) < sections
-    } else {
-        state < 2
-    }
 }

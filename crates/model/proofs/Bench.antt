@@ -10,6 +10,7 @@ use Rattle.model.specs.Searches.{_▷_, all, same}
 use Rattle.model.specs.Plan.{Plan, validPlan}
 use Rattle.model.specs.Records.{Call, Report, Record, call, report, reportKind, named, allowedCall, allowed}
 use Rattle.model.specs.State.{State, start, switchedTo, latestSwitch, setReported, setDue}
+use Rattle.model.specs.Priorities.{greatestHold, current, chosen}
 use Rattle.model.specs.Rules.{broken}
 use Rattle.model.specs.Runs.{effect, deliver, Outcome, moved, broke, step, clean, run, judge, Clean}
 use Rattle.model.specs.Bench.{deliverAll, behind, benchFrom, bench, callsOf}
@@ -61,9 +62,30 @@ module _ (p : Plan) where
   abbrev writes : Call → List Call → Outcome → Option (List Record)
   writes k ks o = elim o as (λ (x : Outcome). Option (List Record)) [ moved st' ↦ behind (call k ∷ map report (st' .due)) (benchFrom p (deliverAll st') ks) | broke n ↦ none ]
 
-  bench-moved : (st : State) (k : Call) (ks : List Call) (st' : State) → step p st (call k) ≡ moved st' → benchFrom p st (k ∷ ks) ≡ behind (call k ∷ map report (st' .due)) (benchFrom p (deliverAll st') ks)
+  pub bench-ended : (st : State) → benchFrom p st [] ≡ some []
+  unfolding benchFrom
+  bench-ended st = refl
+
+  pub bench-moved : (st : State) (k : Call) (ks : List Call) (st' : State) → step p st (call k) ≡ moved st' → benchFrom p st (k ∷ ks) ≡ behind (call k ∷ map report (st' .due)) (benchFrom p (deliverAll st') ks)
   unfolding benchFrom
   bench-moved st k ks st' e = ap (writes k ks) e
+
+  pub bench-broke : (st : State) (k : Call) (ks : List Call) (n : ℕ) → step p st (call k) ≡ broke n → benchFrom p st (k ∷ ks) ≡ none
+  unfolding benchFrom
+  bench-broke st k ks n e = ap (writes k ks) e
+
+  pub bench-begins : (ks : List Call) → bench p ks ≡ benchFrom p (start p) ks
+  unfolding bench
+  bench-begins ks = refl
+
+  -- with every report given: the state is reached, and the chosen thread is the same
+
+  pub settled-reached : (st : State) → Reached p st → Reached p (deliverAll st)
+  settled-reached st r = reports-reach (st .due) st r
+
+  pub settled-chosen : (st : State) → chosen p (deliverAll st) ≡ chosen p st
+  unfolding chosen current greatestHold
+  settled-chosen st = refl
 
   bench-first : (st : State) (k : Call) (ks : List Call) (rs : List Record) → benchFrom p st (k ∷ ks) ≡ some rs → FirstCall p st k ks rs
   unfolding benchFrom
@@ -121,7 +143,7 @@ abbrev IsBench : Plan → State → List Record → Type 0
 IsBench p st rs = (rest : List Record) × (rs ≡ map report (st .due) ++ rest) × (benchFrom p (deliverAll st) (callsOf rs) ≡ some rest)
 
 -- with nothing due there is nothing to give
-given-none : (st : State) → st .due ≡ [] → deliverAll st ≡ st
+pub given-none : (st : State) → st .due ≡ [] → deliverAll st ≡ st
 given-none st q = λ i. st ▷ setReported (latestSwitch (st .reported) (q i)) ▷ setDue (sym q i)
 
 module _ (p : Plan) (st : State) (rs : List Record) where

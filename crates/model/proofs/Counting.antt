@@ -7,17 +7,12 @@ use Prim.Native.Nat.{ℕ, zero, suc, _≤_, _<_}
 use native.Mathlib.Omega.{arith}
 use lib.Dec.{T, eqb, eqb→eq}
 use lib.ListN.{length}
-use Rattle.model.specs.Searches.{all, filter}
+use Rattle.model.specs.Searches.{filter}
 use Rattle.model.specs.Formed.{times}
-use Rattle.model.proofs.Tests.{split, is-true, is-false, and-both, eq-test}
+use Rattle.model.proofs.Tests.{split, is-true, is-false, eq-test}
 use Rattle.model.proofs.Searches.{filtered, in-filter, Pairwise}
 
 module _ {A : Type 0} where
-  -- what passes at each member passes for all
-  pub all-in : (f : A → Bool) (l : List A) → ((a : A) → Mem a l → T (f a)) → T (all f l)
-  all-in f [] h = tt
-  all-in f (a ∷ l) h = and-both (f a) (all f l) (h a (here refl)) (all-in f l (λ b i. h b (there i)))
-
   some-in : (l : List A) → 0 < length l → (a : A) × Mem a l
   some-in [] h = absurd (omega arith)
   some-in (a ∷ l) h = (a, here refl)

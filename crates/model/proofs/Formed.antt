@@ -13,8 +13,8 @@ use Rattle.model.specs.Records.{Report, report, isThread, allowed}
 use Rattle.model.specs.State.{Condition, dormant, ready, asleep, waiting, Hold, State, condition}
 use Rattle.model.specs.Formed.{lastTick, lastWake, conditionInRange, areThreads, holdInRange, numbersInRange, times, heldOnce, inQueue, inWaits, standsOnce, allStandOnce, dueInRange, formed}
 use Rattle.model.proofs.Tests.{and-left, and-right, and-both, eq-test}
-use Rattle.model.proofs.Searches.{all-at, Pairwise, Distinct, in-upTo}
-use Rattle.model.proofs.Counting.{all-in, counted, found, once-apart, apart-once}
+use Rattle.model.proofs.Searches.{all-at, all-in, Pairwise, Distinct, in-upTo}
+use Rattle.model.proofs.Counting.{counted, found, once-apart, apart-once}
 use Rattle.model.proofs.Invariant.{tag, OtherSection, Agree}
 use Rattle.model.proofs.Agreement.{inside}
 use Rattle.model.proofs.Bounds.{queued-below, waiting-below}

@@ -1,38 +1,42 @@
--- What holds of the definitions in specs/, each file on those above it. Laws lists what other crates may cite.
+-- What holds of the definitions in specs/, each file on those above it. Open to other crates are Laws, which lists what they may cite, and the
+-- general vocabulary below; the rest is this crate's own.
 
--- tests, searches, ceilings
+-- general vocabulary: tests as facts, searches over lists, loops that count
 pub mod Tests
 pub mod Searches
-pub mod Ceiling
+pub mod Loops
+-- ceilings
+mod Ceiling
 -- the machine's invariant, and what follows from it in one state
-pub mod Invariant
-pub mod Nesting
+mod Invariant
+mod Nesting
 -- every record keeps it
-pub mod Agreement
-pub mod Soundness
-pub mod Performed
-pub mod Kept
-pub mod Reached
-pub mod Bounds
-pub mod Counting
-pub mod Formed
-pub mod Give
+mod Agreement
+mod Soundness
+mod Performed
+mod Kept
+mod Reached
+mod Bounds
+mod Counting
+mod Formed
+mod Give
 -- what one record changes
-pub mod Turns
-pub mod Holdings
-pub mod Dues
-pub mod Lent
+mod Turns
+mod Holdings
+mod Dues
+mod Lent
+mod Steps
 -- whole lists of records
-pub mod Numbered
-pub mod Prefixes
-pub mod Bench
+mod Numbered
+mod Prefixes
+mod Bench
 -- demand 3: between records and machine, and the theorem
-pub mod Trace
-pub mod Belonging
-pub mod ToRecords
-pub mod ToMachine
-pub mod Blocking
-pub mod Activity
-pub mod Theorem
-pub mod Examples
+mod Trace
+mod Belonging
+mod ToRecords
+mod ToMachine
+mod Blocking
+mod Activity
+mod Theorem
+mod Examples
 pub mod Laws

@@ -16,6 +16,11 @@ module _ {A : Type 0} where
   all-at f (b ∷ l) t (here e) = subst (λ x. T (f x)) (sym e) (and-left (f b) (all f l) t)
   all-at f (b ∷ l) t (there m) = all-at f l (and-right (f b) (all f l) t) m
 
+  -- what passes at each member passes for all
+  pub all-in : (f : A → Bool) (l : List A) → ((a : A) → Mem a l → T (f a)) → T (all f l)
+  all-in f [] h = tt
+  all-in f (a ∷ l) h = and-both (f a) (all f l) (h a (here refl)) (all-in f l (λ b i. h b (there i)))
+
   pub all-append : (f : A → Bool) (a b : List A) → T (all f a) → T (all f b) → T (all f (a ++ b))
   all-append f [] b t u = u
   all-append f (d ∷ a) b t u = and-both (f d) (all f (a ++ b)) (and-left (f d) (all f a) t) (all-append f a b (and-right (f d) (all f a) t) u)

@@ -15,12 +15,12 @@ use Rattle.model.specs.State as state
 use Rattle.model.specs.State.{start}
 use Rattle.model.specs.Priorities.{chosen}
 use Rattle.model.specs.Runs.{clean, breach, run, judge}
-use Rattle.model.proofs.Laws.{Reached, begin, clean-count}
+use Rattle.model.proofs.Laws.{Reached, begin, judge-run, start-nobody, clean-count}
 use Rattle.plan.specs.Bytes as bytes
 use Rattle.plan.specs.Bytes.{threadCount, sectionCount, number}
 use Rattle.plan.specs.View as plans
 use Rattle.plan.specs.declared.Plan.{Plan}
-use Rattle.plan.proofs.Loops.{length-listed}
+use Rattle.model.proofs.Loops.{length-listed}
 use Rattle.plan.proofs.Laws.{refusal-none-valid, threads-view}
 use Rattle.machine.specs.declared.state.State.{State}
 use Rattle.machine.specs.Lists.{numbered}
@@ -30,16 +30,10 @@ use Rattle.machine.proofs.Laws.{ceilings-of}
 use Rattle.dump.specs.Layout.{recordCount, decode}
 use Rattle.dump.specs.Questions as dumps
 use Rattle.dump.specs.Questions.{hasOperands}
-use Rattle.dump.proofs.Laws.{refusal-zero, accepted}
-use Rattle.dump.proofs.Laws.{decode-length}
-use Rattle.monitor.specs.declared.walk.Walked.{Walked}
+use Rattle.dump.proofs.Laws.{refusal-zero, accepted, decode-length}
+use Rattle.walk.specs.declared.walk.Walked.{Walked}
 use Rattle.monitor.specs.Answers.{refused, judged, orElse, firstRefusal, answer, check}
-use Rattle.monitor.specs.Contracts.{Walks, WalkEnds}
-
--- at the start nobody is chosen
-nobody : (p : model.Plan) → chosen p (start p) ≡ none
-unfolding chosen
-nobody p = refl
+use Rattle.walk.specs.Contracts.{Walks, WalkEnds}
 
 module _ (plan dump : List ℕ) where
   -- the plan is refused
@@ -96,7 +90,7 @@ module _ (plan dump : List ℕ) where
             record {
               valid = subst (λ (q : model.Plan). T (model.validPlan q)) (sym same-plan) (refusal-none-valid plan passes);
               ceilings' = ceilings-of (s .machine) p ceilings (f .plan') c;
-              chosen' = ap numbered (sym (ap (chosen (planOf (s .machine))) begins ∙ nobody (planOf (s .machine))));
+              chosen' = ap numbered (sym (ap (chosen (planOf (s .machine))) begins ∙ start-nobody (planOf (s .machine))));
               whole = a .0;
               count = e;
               kinds = a .1;
@@ -106,10 +100,9 @@ module _ (plan dump : List ℕ) where
 
         module _ {w : Walked} (z : WalkEnds w s dump) where
           ended : cond (eqb (w .rule) 0) (clean (w .at) (length (view (w .state) .due))) (breach (w .at) (w .rule)) ≡ judge (bytes.planOf plan) (decode dump)
-          unfolding judge
           ended =
               z .verdict ∙ ap (run (planOf (s .machine)) 0 (decode dump)) begins
-              ∙ ap (λ (q : model.Plan). run q 0 (decode dump) (start q)) same-plan
+              ∙ sym (judge-run (planOf (s .machine)) (decode dump)) ∙ ap (λ (q : model.Plan). judge q (decode dump)) same-plan
 
           -- the walk ends at a record that breaks a rule
           pub check-breach : w .rule ≢ 0 → judged (breach (w .at) (w .rule)) ≡ check plan dump

@@ -1,12 +1,6 @@
--- What holds of the watch, and the laws that its proofs share. Laws is what other crates may cite.
-pub mod Walking
-pub mod Checking
-pub mod Turns
-pub mod Hearing
-pub mod Singles
-pub mod Lending
-pub mod Passed
-pub mod Promised
-pub mod Stepwise
-pub mod KnownBytes
+-- What holds of the watch. Open to other crates is Laws, which lists what they may cite; the rest is this crate's own.
+mod Checking
+mod Passed
+mod Promised
+mod KnownBytes
 pub mod Laws

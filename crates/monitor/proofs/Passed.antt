@@ -12,7 +12,7 @@ use Rattle.model.specs.Records.{allowed}
 use Rattle.model.specs.Runs.{Verdict, judge}
 use Rattle.plan.specs.Bytes as plans
 use Rattle.plan.specs.Bytes.{threadCount, sectionCount, baseAt, planOf}
-use Rattle.plan.proofs.Loops.{length-listed}
+use Rattle.model.proofs.Loops.{length-listed}
 use Rattle.plan.proofs.Laws.{refusal-none-valid}
 use Rattle.dump.specs.Layout.{decode}
 use Rattle.dump.specs.Questions as dumps
@@ -46,3 +46,8 @@ judged-passed plan dump v e = go (firstRefusal plan dump) refl e
     go : (o : Option ℕ) → firstRefusal plan dump ≡ o → answer o (judge (planOf plan) (decode dump)) ≡ judged v → Passed plan dump × (judge (planOf plan) (decode dump) ≡ v)
     go none q i = (passed plan dump q, cc)
     go (some n) q i = let z : _≡_ {A = ℕ} 0 1 = cc in absurd (omega arith)
+
+-- Where nothing is refused the whole check answers the verdict.
+pub unrefused-judged : (plan dump : List ℕ) (v : Verdict) → plans.refusal plan ≡ none → dumps.refusal (threadCount plan) (sectionCount plan) false dump ≡ none → judge (planOf plan) (decode dump) ≡ v → check plan dump ≡ judged v
+unfolding check firstRefusal
+unrefused-judged plan dump v p d e = rw (p, d, e)

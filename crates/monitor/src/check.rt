@@ -1,12 +1,12 @@
 // The whole check of a plan and a dump.
 ghost use mathlib.Core.Path.{_≡_};
 ghost use Rattle.monitor.specs.Answers.{answerOf, check};
-use crate::walk::walk;
 use dump::layout::record_count;
 use dump::questions;
 use machine::state::State;
 use plan::bytes;
 use plan::ceilings::ceilings;
+use walk::walk::walk;
 
 // What the watch answers. Document 01's words: refused, with the question; clean, with records and due; breach, with the record, from 0, and
 // the rule.

@@ -12,7 +12,7 @@ use Rattle.model.specs.Plan.{validPlan}
 use Rattle.model.specs.Rules.{Question, firstNo}
 use Rattle.model.proofs.Tests.{is-true, and-left, and-right}
 use Rattle.plan.specs.Bytes.{threadCount, sectionCount, between, inRange, isPriority, needsWithin, hasCounts, hasLength, hasPriorities, hasNeeds, questions, refusal, number, Whole}
-use Rattle.plan.proofs.Loops.{and-true, length-listed}
+use Rattle.model.proofs.Loops.{and-true, length-listed}
 
 -- where the first No is none, every answer is Yes
 pub all-Yes : (qs : List Question) → firstNo qs ≡ none → T (all (λ q. q .answer) qs)

@@ -13,9 +13,17 @@ use Rattle.model.proofs.Tests.{and-left, and-right, and-both}
 use Rattle.plan.specs.declared.Plan.{Plan}
 use Rattle.plan.specs.Bytes.{threadCount, sectionCount, baseAt, needsAt, planOf, inRange, isPriority, needsWithin, hasPriorities, hasNeeds, questions, refusal, number}
 use Rattle.plan.specs.View.{inUse, view, Fits, baseIn}
-use Rattle.plan.proofs.Loops.{listed, length-listed}
-use Rattle.plan.proofs.Answers.{zero-none, accepted, in-range, valid-listed}
+use Rattle.model.proofs.Loops.{listed, length-listed}
+use Rattle.plan.proofs.Answers.{valid-listed}
 use Rattle.plan.proofs.Entries.{valid-view}
+-- what the answers to questions say, of any questions and of those of a plan
+pub use Rattle.plan.proofs.Answers.{all-Yes, zero-none, in-range, accepted, whole}
+-- base and needs of a thread, from the parts of the struct that they are read from
+pub use Rattle.plan.proofs.Entries.{base-view, mayTake-view}
+-- question 4 in its own words
+pub use Rattle.plan.proofs.Bits.{within-bits}
+-- the known plans as bytes, and bytes for each No
+pub use Rattle.plan.proofs.Examples.{known-plans, refusals}
 
 -- `refusal` answers 0 only where nothing refuses the bytes, which is what `read` asks for
 pub refusal-zero : (bytes : List ℕ) → number (refusal bytes) ≡ 0 → refusal bytes ≡ none

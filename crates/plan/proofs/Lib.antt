@@ -1,7 +1,6 @@
--- What holds of this crate's definitions and loops. Laws is what other crates may cite, with Loops and Answers for loops and questions of their own.
-pub mod Loops
-pub mod Bits
-pub mod Answers
-pub mod Entries
+-- What holds of this crate's definitions. Open to other crates is Laws, which lists what they may cite; the rest is this crate's own.
+mod Bits
+mod Answers
+mod Entries
+mod Examples
 pub mod Laws
-pub mod Examples

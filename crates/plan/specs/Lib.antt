@@ -1,3 +1,4 @@
--- What a reader must believe of this crate: the plan's bytes, and the plan that the code's struct stands for.
+-- What a reader must believe of this crate: the plan's bytes, the plan that the code's struct stands for, and the known plans as bytes.
 pub mod Bytes
 pub mod View
+pub mod Known

@@ -6,8 +6,8 @@ use Prim.Native.Nat.{ℕ}
 use borrow.Author.Needs.{needs}
 use Rattle.plan.specs.Bytes.{refusal, number}
 use Rattle.plan.proofs.Laws.{refusal-zero}
-use Rattle.monitor.specs.Watching.{Watched, watchedUnless, begin}
-use Rattle.monitor.specs.Contracts.{seen}
+use Rattle.live.specs.Watching.{Watched, watchedUnless, begin}
+use Rattle.live.specs.Contracts.{seen}
 use Rattle.exports.proofs.begun.Statement.{statement}
 use Rattle.exports.proofs.begun.Tie as tie
 

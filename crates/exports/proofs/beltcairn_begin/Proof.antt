@@ -39,12 +39,12 @@ use denote.Triple.Table.{entered, cited}
 use denote.Triple.Walked.{says, Stays, stay-ref, stay-none-slice, walkOf, AllGo, goes-ref, goes-none-slice, Walks, ends-at, walked, walk-meets}
 use denote.Triple.Clauses.{ensured, lasts}
 use denote.Exit.{yes}
-use Rattle.monitor.specs.declared.live.Watch.{Watch}
-use Rattle.monitor.specs.declared.live.Begun.{Begun}
-use Rattle.monitor.proofs.live.Watch as W
-use Rattle.monitor.proofs.live.Watch.Laws as W′
-use Rattle.monitor.proofs.live.Begun as B
-use Rattle.monitor.proofs.live.Begun.Laws as B′
+use Rattle.live.specs.declared.live.Watch.{Watch}
+use Rattle.live.specs.declared.live.Begun.{Begun}
+use Rattle.live.proofs.live.Watch as W
+use Rattle.live.proofs.live.Watch.Laws as W′
+use Rattle.live.proofs.live.Begun as B
+use Rattle.live.proofs.live.Begun.Laws as B′
 use Rattle.exports.specs.Contracts.{Begins}
 use Rattle.exports.proofs.begun as begun
 use Rattle.exports.proofs.begun.Symbol as begun-def

@@ -2,8 +2,8 @@
 use mathlib.Core.Path.{_≡_, ap, sym}
 use Prim.Native.Nat.{ℕ}
 use borrow.Author.Needs.{needs}
-use Rattle.monitor.specs.Contracts.{replyAs}
-use Rattle.monitor.specs.declared.live.Reply.{Reply}
+use Rattle.live.specs.Contracts.{replyAs}
+use Rattle.live.specs.declared.live.Reply.{Reply}
 use Rattle.exports.specs.Numbers.{replyNumber, replyDue}
 use Rattle.exports.specs.Contracts.{Tells}
 use Rattle.exports.proofs.tell.Statement.{statement}

@@ -7,7 +7,7 @@ use native.Mathlib.Omega.{arith}
 use borrow.Author.Needs.{needs}
 use borrow.Author.Tests.{not-true, not-false}
 use Rattle.model.specs.Searches.{all, upTo}
-use Rattle.plan.proofs.Loops.{AllLeft, all-begin, passed, failed, all-passed}
+use Rattle.model.proofs.Loops.{AllLeft, all-begin, passed, failed, all-passed}
 use Rattle.dump.specs.Layout.{recordCount, kindAt}
 use Rattle.dump.specs.Questions.{kindAllowed}
 use Rattle.dump.proofs.questions.has_kinds.Statement.{statement}

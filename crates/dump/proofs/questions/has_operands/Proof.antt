@@ -10,7 +10,7 @@ use borrow.Author.Tests.{not-true, not-false, leb-false, eqb-false}
 use lib.Dec.{leb}
 use lib.ListN.{getD}
 use Rattle.model.specs.Searches.{all, upTo}
-use Rattle.plan.proofs.Loops.{AllLeft, all-begin, passed, failed, all-passed, listed}
+use Rattle.model.proofs.Loops.{AllLeft, all-begin, passed, failed, all-passed, listed}
 use Rattle.dump.specs.Layout.{recordCount, kindAt, operandAt}
 use Rattle.dump.specs.Questions.{operandFits, limit}
 use Rattle.dump.proofs.Limits.{under-limit}

@@ -5,7 +5,7 @@ use native.Mathlib.Omega.{arith}
 use borrow.Author.Needs.{needs}
 use lib.ListN.{length, length-set}
 use lib.Seq.{take-all}
-use Rattle.plan.proofs.Loops.{Filled, stored, full}
+use Rattle.model.proofs.Loops.{Filled, stored, full}
 use Rattle.dump.specs.Questions.{limit}
 use Rattle.dump.proofs.questions.limits.Statement.{statement}
 use Rattle.dump.proofs.questions.limits.Tie as tie

@@ -9,7 +9,7 @@ use lib.ListN.{length, length-set, getD-replicate}
 use lib.Seq.{ext-getD}
 use Rattle.model.specs.Searches.{upTo}
 use Rattle.model.specs.Formed.{times}
-use Rattle.plan.proofs.Loops.{listed, length-listed}
+use Rattle.model.proofs.Loops.{listed, length-listed}
 use Rattle.lists.specs.Words.{nibbles, entryOf}
 use Rattle.lists.proofs.Queues.{first, ended, counted, times-within}
 use Rattle.lists.proofs.nibbles.tally.Statement.{statement}

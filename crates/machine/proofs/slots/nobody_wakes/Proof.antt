@@ -8,7 +8,7 @@ use borrow.Author.Needs.{needs}
 use borrow.Author.Tests.{eq-eqb, ne-eqb}
 use lib.Dec.{eqb}
 use lib.ListN.{getD}
-use Rattle.plan.proofs.Loops.{AllPass, all-begin, pass-kept, pass-lost, all-asked}
+use Rattle.model.proofs.Loops.{AllPass, all-begin, pass-kept, pass-lost, all-asked}
 use Rattle.machine.proofs.slots.nobody_wakes.Statement.{statement}
 use Rattle.machine.proofs.slots.nobody_wakes.Tie as tie
 

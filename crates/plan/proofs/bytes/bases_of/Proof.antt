@@ -5,7 +5,8 @@ use native.Mathlib.Omega.{arith}
 use borrow.Author.Needs.{needs}
 use lib.ListN.{length, length-set}
 use Rattle.plan.specs.Bytes.{threadCount, baseAt}
-use Rattle.plan.proofs.Loops.{Filled, fill-begin, stored, filled}
+use Rattle.model.proofs.Loops.{Filled, fill-begin, stored}
+use Rattle.plan.proofs.Entries.{filled}
 use Rattle.plan.proofs.bytes.bases_of.Statement.{statement}
 use Rattle.plan.proofs.bytes.bases_of.Tie as tie
 

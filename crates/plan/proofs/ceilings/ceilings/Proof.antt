@@ -13,7 +13,7 @@ use Rattle.model.specs.Plan.{bit, ceiling}
 use Rattle.model.proofs.Tests.{and-left, and-right}
 use Rattle.plan.specs.declared.Plan.{Plan}
 use Rattle.plan.specs.View.{baseIn, mayTakeIn, view}
-use Rattle.plan.proofs.Loops.{TopLeft, top-begin, raised, topped, listed, length-listed}
+use Rattle.model.proofs.Loops.{TopLeft, top-begin, raised, topped, listed, length-listed}
 use Rattle.plan.proofs.ceilings.ceilings.Statement.{statement}
 use Rattle.plan.proofs.ceilings.ceilings.Tie as tie
 

@@ -2,7 +2,7 @@
 use mathlib.Core.Path.{sym}
 use borrow.Author.Needs.{needs}
 use lib.ListN.{getD}
-use Rattle.plan.proofs.Loops.{listed, unlisted}
+use Rattle.model.proofs.Loops.{listed, unlisted}
 use Rattle.plan.proofs.lookup.base.Statement.{statement}
 use Rattle.plan.proofs.lookup.base.Tie as tie
 

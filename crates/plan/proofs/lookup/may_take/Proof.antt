@@ -3,7 +3,7 @@ use mathlib.Core.Path.{sym}
 use borrow.Author.Needs.{needs}
 use lib.ListN.{getD}
 use Rattle.plan.proofs.Bits.{no-bits}
-use Rattle.plan.proofs.Loops.{listed, unlisted}
+use Rattle.model.proofs.Loops.{listed, unlisted}
 use Rattle.plan.proofs.lookup.may_take.Statement.{statement}
 use Rattle.plan.proofs.lookup.may_take.Tie as tie
 

@@ -7,7 +7,7 @@ use borrow.Author.Needs.{needs}
 use borrow.Author.Tests.{not-true, not-false}
 use lib.ListN.{getD}
 use Rattle.plan.specs.Bytes.{isPriority}
-use Rattle.plan.proofs.Loops.{AllPass, all-begin, pass-kept, pass-lost, all-asked}
+use Rattle.model.proofs.Loops.{AllPass, all-begin, pass-kept, pass-lost, all-asked}
 use Rattle.plan.proofs.questions.all_priorities.Statement.{statement}
 use Rattle.plan.proofs.questions.all_priorities.Tie as tie
 

@@ -6,7 +6,7 @@ use borrow.Author.Needs.{needs}
 use borrow.Author.Tests.{not-true, not-false}
 use lib.ListN.{getD}
 use Rattle.plan.specs.Bytes.{isPriority}
-use Rattle.plan.proofs.Loops.{AllLeft, all-begin, passed, failed, all-passed}
+use Rattle.model.proofs.Loops.{AllLeft, all-begin, passed, failed, all-passed}
 use Rattle.plan.proofs.questions.bases_pass.Statement.{statement}
 use Rattle.plan.proofs.questions.bases_pass.Tie as tie
 

@@ -12,7 +12,7 @@ use Rattle.model.specs.Searches.{all}
 use Rattle.model.proofs.Tests.{from-true}
 use Rattle.plan.specs.Bytes.{inRange, isPriority, needsWithin}
 use Rattle.plan.specs.View.{inUse}
-use Rattle.plan.proofs.Loops.{all-of-more}
+use Rattle.model.proofs.Loops.{all-of-more}
 use Rattle.plan.proofs.Answers.{in-range}
 use Rattle.plan.proofs.Entries.{valid-view}
 use Rattle.plan.proofs.questions.passes.Statement.{statement}

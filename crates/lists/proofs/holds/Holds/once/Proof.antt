@@ -10,7 +10,7 @@ use lib.Dec.{eqb, leb}
 use Rattle.model.specs.Searches.{all, upTo}
 use Rattle.model.specs.State as state
 use Rattle.model.specs.Formed.{times}
-use Rattle.plan.proofs.Loops.{AllLeft, all-begin, passed, failed, all-passed, listed}
+use Rattle.model.proofs.Loops.{AllLeft, all-begin, passed, failed, all-passed, listed}
 use Rattle.lists.specs.declared.holds.Holds.{Holds}
 use Rattle.lists.specs.Words.{nibbles, entryOf}
 use Rattle.lists.specs.Lists.{held}

@@ -9,7 +9,7 @@ use borrow.Author.Tests.{ltb-true, ltb-false}
 use lib.ListN.{getD}
 use Rattle.model.specs.State.{Condition}
 use Rattle.model.specs.Formed.{lastWake}
-use Rattle.plan.proofs.Loops.{left, begin, turn, done}
+use Rattle.model.proofs.Loops.{left, begin, turn, done}
 use Rattle.lists.specs.Words.{nibble}
 use Rattle.machine.specs.declared.slots.Slots.{Slots}
 use Rattle.machine.specs.View.{conditionIn, conditionsOf}

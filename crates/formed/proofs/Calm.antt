@@ -1,0 +1,67 @@
+-- Where nobody waits: no condition is a wait, so each is in range where no tick number is above the greatest.
+use mathlib.Core.Path.{_≡_, subst}
+use mathlib.Core.Logic.{_⊎_, inl, inr}
+use mathlib.Core.Bool.{Bool, true, cond, not}
+use mathlib.Core.List.{List, [], _∷_, map}
+use Prim.Native.Nat.{ℕ, _≤_}
+use native.Mathlib.Omega.{arith}
+use borrow.Author.Tests.{le-leb}
+use lib.Dec.{T, eqb, leb, ltb, ltb→lt, nltb→le}
+use lib.ListN.{getD}
+use Rattle.model.specs.Searches.{all, upTo}
+use Rattle.model.specs.Formed.{lastWake, conditionInRange, times}
+use Rattle.model.proofs.Tests.{split, is-true, from-true, and-left, and-right, and-both}
+use Rattle.plan.specs.View.{inUse}
+use Rattle.model.proofs.Loops.{all-of-more}
+use Rattle.lists.specs.Words.{nibble}
+use Rattle.lists.specs.Lists.{queued}
+use Rattle.lists.proofs.Laws.{queued-empty}
+use Rattle.machine.specs.declared.Machine.{Machine}
+use Rattle.machine.specs.declared.slots.Slots.{Slots}
+use Rattle.machine.specs.View.{conditionOf, conditionIn, conditionsOf}
+use Rattle.formed.specs.Contracts.{standsBy, Stood, Calm}
+use Rattle.machine.proofs.Laws.{by-state}
+
+-- tests of which one follows from the other, or from two
+module _ {A : Type 0} (f : A → Bool) where
+  all-follow : (g : A → Bool) (l : List A) → ((a : A) → T (f a) → T (g a)) → T (all f l) → T (all g l)
+  all-follow g [] h t = tt
+  all-follow g (a ∷ l) h t = and-both (g a) (all g l) (h a (and-left (f a) (all f l) t)) (all-follow g l h (and-right (f a) (all f l) t))
+
+  both-follow : {B C : Type 0} (d : A → B) (e : B → Bool) (c : A → C) (g : C → Bool) (l : List A) → ((a : A) → T (f a) → T (e (d a)) → T (g (c a))) → T (all f l) → T (all e (map d l)) → T (all g (map c l))
+  both-follow d e c g [] h t u = tt
+  both-follow d e c g (a ∷ l) h t u =
+      and-both (g (c a)) (all g (map c l)) (h a (and-left (f a) (all f l) t) (and-left (e (d a)) (all e (map d l)) u))
+      (both-follow d e c g l h (and-right (f a) (all f l) t) (and-right (e (d a)) (all e (map d l)) u))
+
+-- a thread that stands nowhere in empty waits is in no wait
+stands-calm : (q : List ℕ) (s t : ℕ) → T (standsBy q [] s t) → T (ltb s 3)
+stands-calm q s t a = go (split (ltb s 3))
+  where
+    go : T (ltb s 3) ⊎ T (not (ltb s 3)) → T (ltb s 3)
+    go (inl b) = b
+    go (inr b) =
+        let h : 3 ≤ s = nltb→le s 3 b in
+        absurd (rw (le-leb 3 s h) at (and-right (eqb (times (λ u. eqb u t) q) (cond (eqb s 1) 1 0)) (eqb 0 (cond (leb 3 s) 1 0)) a))
+
+pub calm-stood : (m : Machine) → Stood m → m .waits .count ≡ 0 → Calm (m .slots .states) (m .plan .threads)
+calm-stood m e z =
+    let stands : T (all (λ t. standsBy (queued (m .queue)) [] (nibble (m .slots .states) t) t) (upTo (m .plan .threads)))
+    = subst (λ ws. T (all (λ t. standsBy (queued (m .queue)) ws (nibble (m .slots .states) t) t) (upTo (m .plan .threads)))) (queued-empty (m .waits) z) (from-true _ e) in
+    is-true (all (λ t. ltb (nibble (m .slots .states) t) 3) (upTo (m .plan .threads)))
+    (all-follow (λ t. standsBy (queued (m .queue)) [] (nibble (m .slots .states) t) t) (λ t. ltb (nibble (m .slots .states) t) 3) (upTo (m .plan .threads))
+    (λ t a. stands-calm (queued (m .queue)) (nibble (m .slots .states) t) t a) stands)
+
+-- a condition that is no wait is in range where its tick number is
+in-range : (sections s n w : ℕ) → T (ltb s 3) → T (leb w lastWake) → T (conditionInRange sections (conditionOf s n w))
+in-range sections s n w a b =
+    by-state s n w (T (conditionInRange sections (conditionOf s n w))) (λ e. rw e tt) (λ e. rw e tt) (λ e. rw e b) (λ e. absurd (omega (arith, ltb→lt s 3 a)))
+    (λ h. absurd (omega (arith, ltb→lt s 3 a)))
+
+pub calm-range : (slots : Slots) (wakes : List ℕ) (threads sections : ℕ) → threads ≤ 16 → Calm (slots .states) threads → all (λ n. leb n lastWake) (inUse 16 wakes) ≡ true
+    → all (conditionInRange sections) (conditionsOf threads slots wakes) ≡ true
+calm-range slots wakes threads sections h c e =
+    let early : all (λ n. leb n lastWake) (inUse threads wakes) ≡ true = all-of-more (λ n. leb n lastWake) (λ t. getD wakes t 0) threads 16 h e in
+    is-true (all (conditionInRange sections) (conditionsOf threads slots wakes))
+    (both-follow (λ t. ltb (nibble (slots .states) t) 3) (λ t. getD wakes t 0) (λ n. leb n lastWake) (conditionIn slots wakes) (conditionInRange sections) (upTo threads)
+    (λ t a b. in-range sections (nibble (slots .states) t) (nibble (slots .wants) t) (getD wakes t 0) a b) (from-true _ c) (from-true _ early))

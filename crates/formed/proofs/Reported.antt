@@ -1,0 +1,143 @@
+-- The reports due that came from outside: which entries are reports of document 01's, and the laws of a loop over those still to be given.
+use mathlib.Core.Path.{_≡_, ap, ap₂, sym, _∙_}
+use mathlib.Core.Logic.{_⊎_, inl, inr, _≢_}
+use mathlib.Core.Bool.{Bool, true, false, not, _&&_}
+use mathlib.Core.List.{map}
+use Prim.Native.Nat.{ℕ, zero, suc, _+_, _-_, _≤_, _<_}
+use native.Mathlib.Omega.{arith}
+use borrow.Author.Tests.{le-leb, lt-leb, le-ltb, ne-eqb}
+use lib.Dec.{T, eqb, leb, ltb, leb→le, ltb→lt, nltb→le}
+use lib.ListN.{length, getD, drop, length-drop, drop-of-length-le, List·getD-eq-default}
+use Rattle.model.specs.Searches.{all, countFrom, upTo}
+use Rattle.model.specs.Plan.{threads}
+use Rattle.model.specs.Records as records
+use Rattle.model.specs.Records.{report, allowed}
+use Rattle.model.specs.Formed.{dueInRange}
+use Rattle.model.proofs.Tests.{split, equal?}
+use Rattle.plan.specs.declared.Plan.{Plan}
+use Rattle.plan.specs.View.{Fits, view}
+use Rattle.model.proofs.Loops.{left, turn, done}
+use Rattle.plan.proofs.Laws.{threads-view}
+use Rattle.machine.specs.declared.reports.Report.{Report}
+use Rattle.machine.specs.declared.reports.Reports.{Reports}
+use Rattle.machine.specs.Lists.{reportOf, noReport, owed}
+use Rattle.machine.proofs.Laws.{length-owed}
+use Rattle.formed.proofs.Outside.{no-right, names-thread}
+
+-- an entry is a report of document 01's: a Switch to nobody, or of a kind from 16 to 20 that names a thread
+module _ (p : Plan) (fits : Fits p) (r : Report) where
+  abbrev isKind : Bool
+  isKind = leb 16 (r .kind) && leb (r .kind) 20
+
+  pub to-nobody : r .kind ≡ 17 → r .who ≡ 255 → true ≡ allowed (view p) (report (reportOf r))
+  to-nobody e w = rw (e, w)
+
+  -- a kind that is none stands for the report of a thread that no plan has
+  unknown : ((k : ℕ) → 16 ≤ k → k ≤ 20 → r .kind ≢ k) → false ≡ allowed (view p) (report (reportOf r))
+  unknown d = rw (other 16 tt tt, other 17 tt tt, other 18 tt tt, other 19 tt tt, other 20 tt tt, threads-view p) (sym (le-ltb 255 (p .threads) (omega (arith, fits .threads))))
+    where
+      other : (k : ℕ) → T (leb 16 k) → T (leb k 20) → eqb (r .kind) k ≡ false
+      other k a b = ne-eqb (r .kind) k (d k (leb→le 16 k a) (leb→le k 20 b))
+
+  pub to-thread : (r .kind ≡ 17 → r .who ≢ 255) → isKind && ltb (r .who) (p .threads) ≡ allowed (view p) (report (reportOf r))
+  to-thread d = go (split (ltb (r .kind) 16))
+    where
+      Meets : Type 0
+      Meets = isKind && ltb (r .who) (p .threads) ≡ allowed (view p) (report (reportOf r))
+
+      from : (k : ℕ) → r .kind ≡ 16 + k → Meets
+      from zero e = rw (e, threads-view p)
+      from (suc zero) e = rw e (sym (names-thread p (r .who) (d e)))
+      from (suc (suc zero)) e = rw (e, threads-view p)
+      from (suc (suc (suc zero))) e = rw (e, threads-view p)
+      from (suc (suc (suc (suc zero)))) e = rw (e, threads-view p)
+      from (suc (suc (suc (suc (suc k))))) e = rw (le-leb 16 (r .kind) (omega arith), lt-leb (r .kind) 20 (omega arith)) (unknown (λ n a b q. omega arith))
+
+      go : T (ltb (r .kind) 16) ⊎ T (not (ltb (r .kind) 16)) → Meets
+      go (inl t) = let h = ltb→lt (r .kind) 16 t in rw (lt-leb 16 (r .kind) h) (unknown (λ n a b q. omega arith))
+      go (inr t) = from (r .kind - 16) (omega (arith, nltb→le (r .kind) 16 t))
+
+-- those behind the first ones of a list made by counting
+
+behind-from : {A : Type 0} (f : ℕ → A) (g i n : ℕ) → drop g (map f (countFrom i n)) ≡ map f (countFrom (g + i) (n - g))
+behind-from f zero i n =
+    let a : i ≡ 0 + i = omega arith in
+    let b : n ≡ n - 0 = omega arith in
+    ap₂ (λ (j k : ℕ). map f (countFrom j k)) a b
+behind-from f (suc g) i zero = let b : 0 ≡ 0 - suc g = omega arith in ap (λ k. map f (countFrom (suc g + i) k)) b
+behind-from f (suc g) i (suc n) =
+    let a : g + suc i ≡ suc g + i = omega arith in
+    let b : n - g ≡ suc n - suc g = omega arith in
+    behind-from f g (suc i) n ∙ ap₂ (λ (j k : ℕ). map f (countFrom j k)) a b
+
+pub behind : {A : Type 0} (f : ℕ → A) (g n : ℕ) → drop g (map f (upTo n)) ≡ map f (left g n)
+behind f g n = let a : g + 0 ≡ g = omega arith in behind-from f g 0 n ∙ ap (λ k. map f (countFrom k (n - g))) a
+
+-- a loop that asks whether all behind the first `given` pass
+module _ {A : Type 0} (f : A → Bool) (g : ℕ → A) (given n : ℕ) where
+  abbrev pub AllBehind : ℕ → Type 0
+  AllBehind i = all f (map g (left i n)) ≡ all f (drop given (map g (upTo n)))
+
+  pub behind-begin : AllBehind given
+  behind-begin = ap (all f) (sym (behind g given n))
+
+  module _ (i : ℕ) (k : i < n) (inv : AllBehind i) where
+    turned : f (g i) && all f (map g (left (i + 1) n)) ≡ all f (drop given (map g (upTo n)))
+    turned = sym (turn (λ l. all f (map g l)) n i k) ∙ inv
+
+    pub behind-passed : f (g i) ≡ true → AllBehind (i + 1)
+    behind-passed e = rw e at turned
+
+    pub behind-failed : f (g i) ≡ false → all f (drop given (map g (upTo n))) ≡ false
+    behind-failed e = sym (rw e at turned)
+
+  pub behind-all : (i : ℕ) → n ≤ i → AllBehind i → all f (drop given (map g (upTo n))) ≡ true
+  behind-all i k inv = sym inv ∙ done (λ l. all f (map g l)) n i k
+
+fails-from : {A : Type 0} (f : A → Bool) (g : ℕ → A) (i n k : ℕ) → i ≤ k → k < i + n → f (g k) ≡ false → all f (map g (countFrom i n)) ≡ false
+fails-from f g i zero k a b e = absurd (omega arith)
+fails-from f g i (suc n) k a b e = go (equal? k i) (λ d. fails-from f g (suc i) n k (omega arith) (omega arith) e)
+  where
+    go : (k ≡ i) ⊎ (k ≢ i) → (k ≢ i → all f (map g (countFrom (suc i) n)) ≡ false) → all f (map g (countFrom i (suc n))) ≡ false
+    go (inl q) rest = let z : f (g i) ≡ false = ap (λ j. f (g j)) (sym q) ∙ e in rw z
+    go (inr d) rest = sym (no-right (f (g i)) (sym (rest d)))
+
+-- one of them that fails
+pub behind-fails : {A : Type 0} (f : A → Bool) (g : ℕ → A) (given n k : ℕ) → given ≤ k → k < n → f (g k) ≡ false → all f (drop given (map g (upTo n))) ≡ false
+behind-fails f g given n k a b e = ap (all f) (behind g given n) ∙ fails-from f g given (n - given) k a (omega arith) e
+
+-- those still to be given: at most T + 1, each a report of document 01's
+module _ (p : Plan) (rs : Reports) (given : ℕ) where
+  abbrev pub Passes : Bool → Type 0
+  Passes b = b ≡ dueInRange (view p) (drop given (owed rs))
+
+  still-due : length (drop given (owed rs)) ≡ rs .count - given
+  still-due = length-drop given (owed rs) ∙ ap (λ n. n - given) (length-owed rs)
+
+  abbrev AllAllowed : Bool → Type 0
+  AllAllowed b = all (λ d. allowed (view p) (report d)) (drop given (owed rs)) ≡ b
+
+  pub none-due : rs .count ≤ given → Passes true
+  none-due h = rw (drop-of-length-le (owed rs) {i = given} (omega (arith, length-owed rs))) (sym (ap (λ b. b && true) (le-leb 0 (threads (view p) + 1) (omega arith))))
+
+  pub too-many : p .threads + 1 < rs .count - given → Passes false
+  too-many h = rw (lt-leb (length (drop given (owed rs))) (threads (view p) + 1) (omega (arith, still-due, threads-view p)))
+
+  pub one-refused : AllAllowed false → Passes false
+  one-refused e = no-right (leb (length (drop given (owed rs))) (threads (view p) + 1)) (sym e)
+
+  pub all-allowed : rs .count - given ≤ p .threads + 1 → AllAllowed true → Passes true
+  all-allowed h e = rw (le-leb (length (drop given (owed rs))) (threads (view p) + 1) (omega (arith, still-due, threads-view p)), e)
+
+  -- an entry past the array's end stands for no report
+  pub past-end : Fits p → length (rs .items) ≡ 17 → given < rs .count → 17 < rs .count → Passes false
+  past-end fits z a b = one-refused (behind-fails (λ d. allowed (view p) (report d)) entry given (rs .count) last (omega arith) (omega arith) refused)
+    where
+      entry : ℕ → records.Report
+      entry i = reportOf (getD (rs .items) i noReport)
+
+      last : ℕ
+      last = rs .count - 1
+
+      refused : allowed (view p) (report (entry last)) ≡ false
+      refused = rw (List·getD-eq-default (rs .items) noReport {n = last} (omega arith), threads-view p) (le-ltb 255 (p .threads) (omega (arith, fits .threads)))

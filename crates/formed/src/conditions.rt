@@ -1,0 +1,90 @@
+// The conditions of a lent state: whether each is in range, and where a thread in one stands.
+ghost use mathlib.Core.Path.{_≡_};
+ghost use mathlib.Core.Bool.{true, cond};
+ghost use Prim.Native.Nat.{_≤_};
+ghost use lib.Dec.{eqb, leb};
+ghost use Rattle.model.specs.Searches.{all};
+ghost use Rattle.model.specs.Formed.{lastWake, conditionInRange};
+ghost use Rattle.plan.specs.View.{inUse};
+ghost use Rattle.machine.specs.View.{conditionOf, conditionsOf};
+ghost use Rattle.formed.specs.Contracts.{Calm};
+use lists::nibbles::nibble_at;
+use machine::slots::Slots;
+use machine::time::LAST_WAKE;
+
+// Whether the number names a condition, and its tick number or section is in range.
+fn slot_in_range(state: u8, want: u8, wake: u32, sections: usize) -> bool
+    requires { ⌜ sections ≤ 16 ⌝ }
+    ensures { λ r. ⌜ r ≡ conditionInRange sections (conditionOf state want wake) ⌝ }
+{
+    if state == 2 {
+        wake <= LAST_WAKE
+    } else if state == 3 {
+        (want as usize) < sections
+    } else {
+        state < 2
+    }
+}
+
+// Whether each names a condition, and its tick number or section is in range.
+fn in_range(slots: Slots, wakes: [u32; 16], threads: usize, sections: usize) -> bool
+    requires { ⌜ (threads ≤ 16) × (sections ≤ 16) ⌝ }
+    ensures { λ r. ⌜ r ≡ all (conditionInRange sections) (conditionsOf threads slots wakes) ⌝ }
+{
+    let mut t: usize = 0;
+    while t < threads {
+        let state = nibble_at(slots.states, t as u8);
+        let want = nibble_at(slots.wants, t as u8);
+        if !slot_in_range(state, want, wakes[t], sections) {
+            return false;
+        }
+        t += 1;
+    }
+    true
+}
+
+// Whether none of sixteen tick numbers is above the greatest that a sleeper waits for: asked at once, without an early end.
+fn in_time(wakes: [u32; 16]) -> bool
+    ensures { λ r. ⌜ r ≡ all (λ n. leb n lastWake) (inUse 16 wakes) ⌝ }
+{
+    let mut pass = true;
+    let mut t: usize = 0;
+    while t < 16 {
+        if LAST_WAKE < wakes[t] {
+            pass = false;
+        }
+        t += 1;
+    }
+    pass
+}
+
+// Whether each is in range, where `calm` says that no thread waits: then the tick numbers alone are left to ask, of all sixteen at once.
+pub(crate) fn fit(
+    slots: Slots,
+    wakes: [u32; 16],
+    calm: bool,
+    threads: usize,
+    sections: usize,
+) -> bool
+    requires { ⌜ (threads ≤ 16) × (sections ≤ 16) × (calm ≡ true → Calm (slots .states) threads) ⌝ }
+    ensures { λ r. ⌜ r ≡ all (conditionInRange sections) (conditionsOf threads slots wakes) ⌝ }
+{
+    if calm && in_time(wakes) {
+        return true;
+    }
+    in_range(slots, wakes, threads, sections)
+}
+
+// How often a thread in this condition stands in the queue.
+pub(crate) fn in_queue(state: u8) -> u8
+    ensures { λ r. ⌜ r ≡ cond (eqb state 1) 1 0 ⌝ }
+{
+    if state == 1 { 1 } else { 0 }
+}
+
+// And in the waits.
+pub(crate) fn in_waits(state: u8) -> u8
+    ensures { λ r. ⌜ r ≡ cond (leb 3 state) 1 0 ⌝ }
+{
+    if 3 <= state { 1 } else { 0 }
+}

@@ -1,0 +1,182 @@
+-- One record on a lent state: what it leaves known where nothing refuses it, and what is told of it.
+use mathlib.Core.Path.{_≡_, refl, ap, sym, _∙_}
+use mathlib.Core.Logic.{_⊎_, inl, inr, _≢_}
+use mathlib.Core.Bool.{Bool, true, false, not, _&&_}
+use mathlib.Core.List.{List}
+use mathlib.Core.Option.{Option, none, some}
+use Prim.Native.Nat.{ℕ, _<_}
+use native.Mathlib.Omega.{arith}
+use borrow.Author.Tests.{eq-eqb, ne-eqb}
+use lib.Dec.{T, eqb, T-not}
+use lib.ListN.{length}
+use Rattle.model.specs.Plan.{threads}
+use Rattle.model.specs.State as state
+use Rattle.model.specs.Priorities.{chosen}
+use Rattle.model.specs.Runs.{Outcome, moved, broke}
+use Rattle.model.specs.Formed.{lastTick, formed}
+use Rattle.model.proofs.Tests.{and-both, eq-test, equal?}
+use Rattle.model.proofs.Laws.{WellFormed}
+use Rattle.plan.specs.Bytes.{number}
+use Rattle.plan.specs.View as plans
+use Rattle.plan.proofs.Laws.{all-Yes, zero-none, threads-view}
+use Rattle.machine.specs.declared.Machine.{Machine}
+use Rattle.machine.specs.declared.state.State.{State}
+use Rattle.machine.specs.Lists.{numbered}
+use Rattle.machine.specs.View.{planOf, idle, view}
+use Rattle.machine.specs.Contracts.{Ceilings}
+use Rattle.machine.specs.Steps.{Answers}
+use Rattle.machine.proofs.Laws.{formed-facts, chosen-due, answers-moved, answers-broke}
+use Rattle.dump.specs.Layout.{recordOf, kindOf}
+use Rattle.dump.specs.Questions.{kindAllowed, operandFits}
+use Rattle.dump.proofs.Laws.{allowed-back, kind-back}
+use Rattle.live.specs.declared.live.Watch.{Watch}
+use Rattle.live.specs.declared.live.Reply.the-variants as says
+use Rattle.live.specs.Watching as watching
+use Rattle.live.specs.Watching.{Watched, isRule, questions, refusal, outcomeOf, replyOf, stored, replyUnless, watchedUnless, reply, after}
+use Rattle.walk.specs.Contracts.{Single}
+use Rattle.live.specs.Contracts.{seen, Tells}
+
+-- the answer Yes to 12, 7, 8 and 13
+pub record Passed (w : Watch) (kind operand : ℕ) : Type 0 where
+  pub formed' : T (formed (planOf (w .state .machine)) (view (w .state)))
+  pub kind' : T (kindAllowed false kind)
+  pub operand' : T (operandFits (threads (planOf (w .state .machine))) (w .state .machine .plan .sections) kind operand)
+  pub tick' : T (not (eqb kind 7 && eqb (view (w .state) .tickNumber) lastTick))
+
+module _ (w : Watch) (k n : ℕ) where
+  -- `refused` answers 0 only where nothing refuses the record
+  pub refusal-zero : number (refusal (seen w) k n) ≡ 0 → refusal (seen w) k n ≡ none
+  unfolding refusal
+  refusal-zero e = zero-none (questions (seen w) k n) tt e
+
+  pub passed : refusal (seen w) k n ≡ none → Passed w k n
+  unfolding refusal
+  passed e =
+      let p = planOf (w .state .machine) in
+      let st = view (w .state) in
+      let r = each (formed p st) (isRule (w .rule)) (kindAllowed false k) (operandFits (threads p) (p .sections) k n) (not (eqb k 7 && eqb (st .tickNumber) lastTick)) (all-Yes (questions (seen w) k n) e) in
+      record { formed' = r .0; kind' = r .1; operand' = r .2; tick' = r .3 }
+    where
+      each : (a b c d e : Bool) → T ((a && b) && (c && (d && (e && true)))) → T a × T c × T d × T e
+      each true true true true true t = (tt, tt, tt, tt)
+      each true true true true false t = absurd t
+      each true true true false e t = absurd t
+      each true true false d e t = absurd t
+      each true false c d e t = absurd t
+      each false b c d e t = absurd t
+
+module _ {w : Watch} {k n : ℕ} (a : Passed w k n) where
+  abbrev m : Machine
+  m = w .state .machine
+
+  abbrev st : state.State
+  st = view (w .state)
+
+  -- what is known of the lent state
+  pub known : WellFormed (planOf m) st
+  known = formed-facts (w .state) (a .formed')
+
+  room : k ≡ 7 → st .tickNumber < lastTick
+  room q = go (equal? (st .tickNumber) lastTick)
+    where
+      go : (st .tickNumber ≡ lastTick) ⊎ (st .tickNumber ≢ lastTick) → st .tickNumber < lastTick
+      go (inl z) = absurd (T-not (eqb k 7 && eqb (st .tickNumber) lastTick) (a .tick') (and-both (eqb k 7) (eqb (st .tickNumber) lastTick) (eq-test k 7 q) (eq-test (st .tickNumber) lastTick z)))
+      go (inr d) = omega (arith, known .tick)
+
+  -- the record can be stepped over, from the lent state
+  pub steps-over : {ceilings : List ℕ} {who : ℕ} → Ceilings m ceilings → who ≡ numbered (chosen (planOf m) (idle m)) → Single (w .state) ceilings who k n
+  steps-over c e =
+      let fits : T (operandFits (m .plan .threads) (m .plan .sections) k n) = rw (threads-view (m .plan)) at (a .operand') in
+      record {
+        kind' = a .kind';
+        operand' = fits;
+        steps =
+            record {
+              formed = a .formed';
+              ceilings' = c;
+              chosen' = e ∙ ap numbered (sym (chosen-due (planOf m) m (st .due)));
+              allowed = allowed-back (planOf m) k n (a .operand');
+              tick = λ t. room (sym (kind-back k n (a .kind')) ∙ ap kindOf t);
+            };
+      }
+
+-- replies differ, and a broken rule is told
+
+refused-broken : {q m : ℕ} → watching.refused q ≡ watching.broken m → ⊥
+refused-broken e = let z : _≡_ {A = ℕ} 0 1 = cc in omega arith
+
+refused-clean : {q m : ℕ} → watching.refused q ≡ watching.clean m → ⊥
+refused-clean e = let z : _≡_ {A = ℕ} 0 1 = cc in omega arith
+
+broken-clean : {q m : ℕ} → watching.broken q ≡ watching.clean m → ⊥
+broken-clean e = let z : _≡_ {A = ℕ} 0 1 = cc in omega arith
+
+broken-tells : {q m : ℕ} → watching.broken q ≡ watching.broken m → q ≡ m
+broken-tells e = cc
+
+-- what a step answers and leaves, as the definitions have it: a question's number, a stored rule, or what the record does
+module _ (w : Watch) (k n : ℕ) where
+  refuses : {q : ℕ} → q ≡ number (refusal (seen w) k n) → q ≢ 0 → (reply (seen w) k n ≡ watching.refused q) × (after (seen w) k n ≡ seen w)
+  unfolding reply after
+  refuses {q} e d = go (refusal (seen w) k n) _ _ e
+    where
+      go : (o : Option ℕ) (r : watching.Reply) (v : Watched) → q ≡ number o → (replyUnless o r ≡ watching.refused q) × (watchedUnless o v (seen w) ≡ seen w)
+      go none r v z = absurd (d z)
+      go (some m) r v z = (ap watching.refused (sym z), refl)
+
+  module _ (e : refusal (seen w) k n ≡ none) where
+    repeats : w .rule ≢ 0 → (reply (seen w) k n ≡ watching.broken (w .rule)) × (after (seen w) k n ≡ seen w)
+    unfolding reply after
+    repeats d = (rw (e, ne-eqb (w .rule) 0 d), rw (e, ne-eqb (w .rule) 0 d))
+
+    judges : w .rule ≡ 0 → (o : Outcome) → outcomeOf (seen w) k n ≡ o → (reply (seen w) k n ≡ replyOf o) × (after (seen w) k n ≡ stored (seen w) o)
+    unfolding reply after
+    judges d o q = (rw (e, eq-eqb (w .rule) 0 d, q), rw (e, eq-eqb (w .rule) 0 d, q))
+
+  -- the same of the code's answer and state
+
+  pub tells-refused : {q : ℕ} → q ≡ number (refusal (seen w) k n) → q ≢ 0 → Tells (record { watch = w; reply = says.Refused q }) w k n
+  tells-refused e d =
+      let r = refuses e d in
+      record {
+        answer = sym (r .0);
+        leaves = sym (r .1);
+        refused' = λ m x. refl;
+        stored' = λ x. refl;
+        breach' = λ m x y. absurd (refused-broken (sym (r .0) ∙ y));
+      }
+
+  module _ (e : refusal (seen w) k n ≡ none) where
+    pub tells-stored : w .rule ≢ 0 → Tells (record { watch = w; reply = says.Broken (w .rule) }) w k n
+    tells-stored d =
+        let r = repeats e d in
+        record {
+          answer = sym (r .0);
+          leaves = sym (r .1);
+          refused' = λ m x. refl;
+          stored' = λ x. refl;
+          breach' = λ m x y. absurd (d x);
+        }
+
+    module _ (d : w .rule ≡ 0) {after' : State} {who rule' : ℕ} (a : Answers after' who rule' (w .state) (recordOf k n)) where
+      pub tells-broken : rule' ≢ 0 → Tells (record { watch = record { state = w .state; rule = rule' }; reply = says.Broken rule' }) w k n
+      tells-broken f =
+          let r = judges e d (broke rule') (answers-broke a f) in
+          record {
+            answer = sym (r .0);
+            leaves = sym (r .1);
+            refused' = λ m y. absurd (refused-broken (sym y ∙ r .0));
+            stored' = λ y. absurd (y d);
+            breach' = λ m y z. ap (λ m. record { state = w .state; rule = m }) (broken-tells (sym (r .0) ∙ z));
+          }
+
+      pub tells-clean : {due : ℕ} → rule' ≡ 0 → due ≡ length (view after' .due) → Tells (record { watch = record { state = after'; rule = w .rule }; reply = says.Clean due }) w k n
+      tells-clean f g =
+          let r = judges e d (moved (view after')) (answers-moved a f) in
+          record {
+            answer = ap watching.clean g ∙ sym (r .0);
+            leaves = ap (λ p. record { plan = p; state = view after'; rule = w .rule }) (ap plans.view (a .plan')) ∙ sym (r .1);
+            refused' = λ m y. absurd (refused-clean (sym y ∙ r .0));
+            stored' = λ y. absurd (y d);
+            breach' = λ m y z. absurd (broken-clean (sym z ∙ r .0));
+          }
