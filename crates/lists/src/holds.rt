@@ -186,10 +186,10 @@ impl Holds {
         let mut ts = self.threads;
         let mut left = self.count;
         while 0 < left {
-            let t = (ts % 16) as u8;
+            let holder = (ts % 16) as u8;
             ts = ts / 16;
             left -= 1;
-            if t == thread {
+            if holder == thread {
                 return false;
             }
         }
@@ -206,11 +206,11 @@ impl Holds {
         let mut left = self.count;
         while 0 < left {
             let s = (ss % 16) as u8;
-            let t = (ts % 16) as u8;
+            let holder = (ts % 16) as u8;
             ss = ss / 16;
             ts = ts / 16;
             left -= 1;
-            if s == section && t == thread {
+            if s == section && holder == thread {
                 return false;
             }
         }

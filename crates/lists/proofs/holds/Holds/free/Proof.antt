@@ -18,8 +18,8 @@ abbrev μ-loop : tie.MeasureT-loop
 loop-holds : tie.Need-loop-holds Inv-loop μ-loop
 loop-holds c = λ ss₀. (ss₀, refl)
 
-cast-t : tie.Need-cast-t Inv-loop μ-loop
-cast-t c = search needs
+cast-holder : tie.Need-cast-holder Inv-loop μ-loop
+cast-holder c = search needs
 
 sub-left : tie.Need-sub-left Inv-loop μ-loop
 sub-left c = search needs
@@ -51,4 +51,4 @@ returns-2 c =
 pub free-spec : {M : Type 1} → statement M
 free-spec =
     tie.close
-    (tie.spec Inv-loop μ-loop loop-holds cast-t sub-left returns loop-less loop-again returns-2)
+    (tie.spec Inv-loop μ-loop loop-holds cast-holder sub-left returns loop-less loop-again returns-2)

@@ -22,8 +22,8 @@ loop-holds c = refl
 cast-s : tie.Need-cast-s Inv-loop μ-loop
 cast-s c = search needs
 
-cast-t : tie.Need-cast-t Inv-loop μ-loop
-cast-t c = search needs
+cast-holder : tie.Need-cast-holder Inv-loop μ-loop
+cast-holder c = search needs
 
 sub-left : tie.Need-sub-left Inv-loop μ-loop
 sub-left c = search needs
@@ -58,7 +58,7 @@ lacks-spec =
     μ-loop
     loop-holds
     cast-s
-    cast-t
+    cast-holder
     sub-left
     returns
     loop-less
