@@ -1,13 +1,13 @@
 -- What the answers to questions 5 to 8 say.
 use mathlib.Core.Path.{_≡_}
-use mathlib.Core.Bool.{Bool, true, false, _&&_}
+use mathlib.Core.Bool.{Bool}
 use mathlib.Core.List.{List}
 use mathlib.Core.Option.{none}
 use Prim.Native.Nat.{ℕ, _≤_}
 use lib.Dec.{T, leb, leb→le, eqb→eq}
 use lib.ListN.{length}
 use Rattle.model.proofs.Tests.{and-left, and-right}
-use Rattle.plan.proofs.Laws.{all-Yes}
+use Rattle.model.proofs.Laws.{all-yes}
 use Rattle.dump.specs.Layout.{recordCount}
 use Rattle.dump.specs.Questions.{mostRecords, hasCount, hasLength, hasKinds, hasOperands, questions, refusal, Whole}
 
@@ -20,16 +20,7 @@ pub record Accepted (threads sections : ℕ) (callsOnly : Bool) (bytes : List �
 
 pub accepted : (threads sections : ℕ) (callsOnly : Bool) (bytes : List ℕ) → refusal threads sections callsOnly bytes ≡ none → Accepted threads sections callsOnly bytes
 unfolding refusal questions
-accepted t s b bytes e =
-    let r = each (hasCount bytes) (hasLength bytes) (hasKinds b bytes) (hasOperands t s bytes) (all-Yes (questions t s b bytes) e) in
-    record { count = r .0; size = r .1; kinds = r .2; operands = r .3 }
-  where
-    each : (a b c d : Bool) → T (a && (b && (c && (d && true)))) → T a × T b × T c × T d
-    each true true true true t = (tt, tt, tt, tt)
-    each true true true false t = absurd t
-    each true true false d t = absurd t
-    each true false c d t = absurd t
-    each false b c d t = absurd t
+accepted t s b bytes e = let r = all-yes (questions t s b bytes) e in record { count = r .0; size = r .1 .0; kinds = r .1 .1 .0; operands = r .1 .1 .1 .0 }
 
 -- the answer Yes to question 5, and to questions 5 and 6, in numbers
 pub has-two : (bytes : List ℕ) → T (hasCount bytes) → 2 ≤ length bytes

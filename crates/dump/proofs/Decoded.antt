@@ -13,7 +13,7 @@ use Rattle.model.specs.Searches.{all, upTo}
 use Rattle.model.specs.Plan.{Plan, threads}
 use Rattle.model.specs.Records.{Tick, Record, call, allowed}
 use Rattle.model.proofs.Tests.{split, and-left, and-right, and-both, equal?}
-use Rattle.model.proofs.Searches.{all-at, in-upTo}
+use Rattle.model.proofs.Searches.{all-from, all-at, in-upTo}
 use Rattle.plan.specs.Bytes.{byte}
 use Rattle.model.proofs.Loops.{listed, length-listed}
 use Rattle.dump.specs.Layout.{recordCount, kindAt, operandAt, recordOf, decode, kindOf, operandOf, encode}
@@ -21,7 +21,7 @@ use Rattle.dump.specs.Questions.{operandFits, refusal}
 use Rattle.dump.proofs.Words.{Stands, word-stands}
 use Rattle.dump.proofs.Codec.{isCallRecord, kind-back, call-back, fits-kind, operand-back, allowed-back}
 use Rattle.dump.proofs.Answers.{Accepted, accepted}
-use Rattle.dump.proofs.Encoded.{all-from, recordAt, entryAt, encode-length, count-stands, encode-kind, operand-stands}
+use Rattle.dump.proofs.Encoded.{recordAt, entryAt, encode-length, count-stands, encode-kind, operand-stands}
 
 -- the two ways to look up a place within a list
 at-place : {A : Type 0} (l : List A) (i : ℕ) (d : A) → i < length l → getElem? l i ≡ some (getD l i d)

@@ -13,7 +13,7 @@ use Rattle.model.specs.Plan.{Plan, threads}
 use Rattle.model.specs.Records.{Tick, Record, call, allowed}
 use Rattle.model.specs.Rules.{Question, firstNo}
 use Rattle.model.proofs.Tests.{is-true, and-left, and-right, and-both, eq-test}
-use Rattle.model.proofs.Searches.{all-append, upTo-at, all-in}
+use Rattle.model.proofs.Searches.{all-from, all-append, upTo-at, all-in}
 use Rattle.plan.specs.Bytes.{byte, word}
 use Rattle.model.proofs.Loops.{listed, length-listed}
 use Rattle.dump.specs.Layout.{recordCount, kindAt, operandAt, recordOf, decode, kindOf, operandOf, twoBytes, operands, encode}
@@ -27,11 +27,6 @@ module _ {A : Type 0} where
   passes-at f [] t d i h = absurd (omega arith)
   passes-at f (a ∷ l) t d zero h = and-left (f a) (all f l) t
   passes-at f (a ∷ l) t d (suc i) h = passes-at f l (and-right (f a) (all f l) t) d i (omega arith)
-
-  -- one test follows from another
-  pub all-from : (f g : A → Bool) → ((a : A) → T (f a) → T (g a)) → (l : List A) → T (all f l) → T (all g l)
-  all-from f g k [] t = tt
-  all-from f g k (a ∷ l) t = and-both (g a) (all g l) (k a (and-left (f a) (all f l) t)) (all-from f g k l (and-right (f a) (all f l) t))
 
   -- what is made of each of a list, at a place within the list
   made-at : {B : Type 0} (f : A → B) (l : List A) (i : ℕ) (d : A) (e : B) → i < length l → getD (map f l) i e ≡ f (getD l i d)

@@ -12,6 +12,7 @@ use Rattle.model.specs.Searches.{all, upTo}
 use Rattle.model.specs.Formed.{lastWake, conditionInRange, times}
 use Rattle.model.proofs.Tests.{split, is-true, from-true, and-left, and-right, and-both}
 use Rattle.plan.specs.View.{inUse}
+use Rattle.model.proofs.Searches.{all-from}
 use Rattle.model.proofs.Loops.{all-of-more}
 use Rattle.lists.specs.Words.{nibble}
 use Rattle.lists.specs.Lists.{queued}
@@ -22,12 +23,8 @@ use Rattle.machine.specs.View.{conditionOf, conditionIn, conditionsOf}
 use Rattle.formed.specs.Contracts.{standsBy, Stood, Calm}
 use Rattle.machine.proofs.Laws.{by-state}
 
--- tests of which one follows from the other, or from two
+-- a test that follows from two
 module _ {A : Type 0} (f : A → Bool) where
-  all-follow : (g : A → Bool) (l : List A) → ((a : A) → T (f a) → T (g a)) → T (all f l) → T (all g l)
-  all-follow g [] h t = tt
-  all-follow g (a ∷ l) h t = and-both (g a) (all g l) (h a (and-left (f a) (all f l) t)) (all-follow g l h (and-right (f a) (all f l) t))
-
   both-follow : {B C : Type 0} (d : A → B) (e : B → Bool) (c : A → C) (g : C → Bool) (l : List A) → ((a : A) → T (f a) → T (e (d a)) → T (g (c a))) → T (all f l) → T (all e (map d l)) → T (all g (map c l))
   both-follow d e c g [] h t u = tt
   both-follow d e c g (a ∷ l) h t u =
@@ -49,8 +46,8 @@ calm-stood m e z =
     let stands : T (all (λ t. standsBy (queued (m .queue)) [] (nibble (m .slots .states) t) t) (upTo (m .plan .threads)))
     = subst (λ ws. T (all (λ t. standsBy (queued (m .queue)) ws (nibble (m .slots .states) t) t) (upTo (m .plan .threads)))) (queued-empty (m .waits) z) (from-true _ e) in
     is-true (all (λ t. ltb (nibble (m .slots .states) t) 3) (upTo (m .plan .threads)))
-    (all-follow (λ t. standsBy (queued (m .queue)) [] (nibble (m .slots .states) t) t) (λ t. ltb (nibble (m .slots .states) t) 3) (upTo (m .plan .threads))
-    (λ t a. stands-calm (queued (m .queue)) (nibble (m .slots .states) t) t a) stands)
+    (all-from (λ t. standsBy (queued (m .queue)) [] (nibble (m .slots .states) t) t) (λ t. ltb (nibble (m .slots .states) t) 3)
+    (λ t a. stands-calm (queued (m .queue)) (nibble (m .slots .states) t) t a) (upTo (m .plan .threads)) stands)
 
 -- a condition that is no wait is in range where its tick number is
 in-range : (sections s n w : ℕ) → T (ltb s 3) → T (leb w lastWake) → T (conditionInRange sections (conditionOf s n w))

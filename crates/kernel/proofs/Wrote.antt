@@ -1,6 +1,6 @@
 -- What the answer that n records are written tells: every question has the answer Yes, and the dump stands in front.
 use mathlib.Core.Path.{_≡_, refl, ap, _∙_}
-use mathlib.Core.Bool.{Bool, true, _&&_}
+use mathlib.Core.Bool.{true}
 use mathlib.Core.List.{List}
 use mathlib.Core.Option.{Option, none, some, Option·some-ne-none}
 use Prim.Native.Nat.{ℕ, _≤_}
@@ -10,10 +10,9 @@ use lib.ListN.{length, take, drop}
 use lib.Seq.{take-at}
 use Rattle.model.specs.Records.{Record}
 use Rattle.model.specs.Rules.{firstNo}
-use Rattle.model.proofs.Tests.{and-left, and-right}
+use Rattle.model.proofs.Laws.{all-yes}
 use Rattle.plan.specs.Bytes as plans
 use Rattle.plan.specs.Bytes.{threadCount, sectionCount}
-use Rattle.plan.proofs.Laws.{all-Yes}
 use Rattle.dump.specs.Layout.{encode}
 use Rattle.dump.specs.Questions as dumps
 use Rattle.dump.specs.Questions.{mostRecords}
@@ -63,10 +62,7 @@ module _ (plan list out : List ℕ) (n : ℕ) (e : answer plan list (length out)
       (first-none (plans.refusal plan) _ (parts .0), first-none (dumps.refusal (threadCount plan) (sectionCount plan) true list) _ later, second-none (dumps.refusal (threadCount plan) (sectionCount plan) true list) _ later)
 
   yes : T (isMade (made plan list)) × T (leb (length rs) mostRecords) × T (leb (bytesFor (length rs)) (length out))
-  yes = each (isMade (made plan list)) (leb (length rs) mostRecords) (leb (bytesFor (length rs)) (length out)) (all-Yes (questions (made plan list) (length out)) (unrefused .2))
-    where
-      each : (a b c : Bool) → T (a && (b && (c && true))) → T a × T b × T c
-      each a b c t = let u = and-right a (b && (c && true)) t in (and-left a (b && (c && true)) t, and-left b (c && true) u, and-left c true (and-right b (c && true) u))
+  yes = let r = all-yes (questions (made plan list) (length out)) (unrefused .2) in (r .0, r .1 .0, r .1 .1 .0)
 
   written : output plan list out ≡ inFront rs out
   unfolding output

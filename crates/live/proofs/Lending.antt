@@ -1,7 +1,7 @@
 -- One record on a lent state: what it leaves known where nothing refuses it, and what is told of it.
 use mathlib.Core.Path.{_≡_, refl, ap, sym, _∙_}
 use mathlib.Core.Logic.{_⊎_, inl, inr, _≢_}
-use mathlib.Core.Bool.{Bool, true, false, not, _&&_}
+use mathlib.Core.Bool.{false, not, _&&_}
 use mathlib.Core.List.{List}
 use mathlib.Core.Option.{Option, none, some}
 use Prim.Native.Nat.{ℕ, _<_}
@@ -14,11 +14,11 @@ use Rattle.model.specs.State as state
 use Rattle.model.specs.Priorities.{chosen}
 use Rattle.model.specs.Runs.{Outcome, moved, broke}
 use Rattle.model.specs.Formed.{lastTick, formed}
-use Rattle.model.proofs.Tests.{and-both, eq-test, equal?}
-use Rattle.model.proofs.Laws.{WellFormed}
+use Rattle.model.proofs.Tests.{and-left, and-both, eq-test, equal?}
+use Rattle.model.proofs.Laws.{WellFormed, all-yes}
 use Rattle.plan.specs.Bytes.{number}
 use Rattle.plan.specs.View as plans
-use Rattle.plan.proofs.Laws.{all-Yes, zero-none, threads-view}
+use Rattle.plan.proofs.Laws.{zero-none, threads-view}
 use Rattle.machine.specs.declared.Machine.{Machine}
 use Rattle.machine.specs.declared.state.State.{State}
 use Rattle.machine.specs.Lists.{numbered}
@@ -52,18 +52,8 @@ module _ (w : Watch) (k n : ℕ) where
   pub passed : refusal (seen w) k n ≡ none → Passed w k n
   unfolding refusal
   passed e =
-      let p = planOf (w .state .machine) in
-      let st = view (w .state) in
-      let r = each (formed p st) (isRule (w .rule)) (kindAllowed false k) (operandFits (threads p) (p .sections) k n) (not (eqb k 7 && eqb (st .tickNumber) lastTick)) (all-Yes (questions (seen w) k n) e) in
-      record { formed' = r .0; kind' = r .1; operand' = r .2; tick' = r .3 }
-    where
-      each : (a b c d e : Bool) → T ((a && b) && (c && (d && (e && true)))) → T a × T c × T d × T e
-      each true true true true true t = (tt, tt, tt, tt)
-      each true true true true false t = absurd t
-      each true true true false e t = absurd t
-      each true true false d e t = absurd t
-      each true false c d e t = absurd t
-      each false b c d e t = absurd t
+      let r = all-yes (questions (seen w) k n) e in
+      record { formed' = and-left (formed (planOf (w .state .machine)) (view (w .state))) (isRule (w .rule)) (r .0); kind' = r .1 .0; operand' = r .1 .1 .0; tick' = r .1 .1 .1 .0 }
 
 module _ {w : Watch} {k n : ℕ} (a : Passed w k n) where
   abbrev m : Machine

@@ -150,7 +150,7 @@ fn breached(watch: Watch, rule: u8) -> Advanced
 }
 
 // One record, on any lent state. A Tick that moves the tick number alone and a report are judged without ceilings, choice or walk.
-pub(crate) fn advance(watch: Watch, kind: u8, operand: u16) -> Advanced
+pub fn advance(watch: Watch, kind: u8, operand: u16) -> Advanced
     ensures { λ r. ⌜ Advances r watch kind operand ⌝ }
 {
     let no = refused(watch, kind, operand);

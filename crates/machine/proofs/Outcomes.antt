@@ -14,7 +14,7 @@ use Rattle.model.specs.Searches.{isEmpty}
 use Rattle.model.specs.Plan as plan
 use Rattle.model.specs.Plan.{threads}
 use Rattle.model.specs.Records as records
-use Rattle.model.specs.Records.{Call, call, report, Switch, allowedCall}
+use Rattle.model.specs.Records.{Call, call, report, allowedCall}
 use Rattle.model.specs.State as state
 use Rattle.model.specs.Priorities.{greatestHold, current, chosen}
 use Rattle.model.specs.Calls.{tick, delay, relinquish, end, take, give, perform, switch}

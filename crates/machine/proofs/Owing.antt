@@ -10,7 +10,6 @@ use lib.Dec.{T, leb, ltb, leb→le, le→leb, ltb→lt, nleb→lt, nltb→le}
 use lib.ListN.{length, getD, drop, drop-of-length-le, List·getD-eq-default}
 use lib.Seq.{drop-cons, drop-drop}
 use Rattle.model.specs.Plan.{threads, validPlan}
-use Rattle.model.specs.Priorities.{chosen}
 use Rattle.model.specs.Formed.{numbersInRange, heldOnce, allStandOnce, dueInRange, formed}
 use Rattle.model.proofs.Tests.{split, and-left, and-both}
 use Rattle.model.proofs.Laws.{well-formed}

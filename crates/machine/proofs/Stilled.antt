@@ -19,7 +19,7 @@ use Rattle.lists.specs.Words.{nibble, entryOf}
 use Rattle.lists.specs.Lists.{numbered, queued, held}
 use Rattle.lists.proofs.Laws.{queued-empty, length-held}
 use Rattle.machine.specs.declared.Machine.{Machine}
-use Rattle.machine.specs.View.{planOf, idle}
+use Rattle.machine.specs.View.{planOf}
 use Rattle.machine.specs.Contracts.{ownerIn, chosenIn, Ticks, Still}
 use Rattle.machine.proofs.Conditions.{asleep-until}
 use Rattle.machine.proofs.Facts.{Facts, facts}

@@ -21,6 +21,11 @@ module _ {A : Type 0} where
   all-in f [] h = tt
   all-in f (a ∷ l) h = and-both (f a) (all f l) (h a (here refl)) (all-in f l (λ b i. h b (there i)))
 
+  -- one test follows from another
+  pub all-from : (f g : A → Bool) → ((a : A) → T (f a) → T (g a)) → (l : List A) → T (all f l) → T (all g l)
+  all-from f g k [] t = tt
+  all-from f g k (a ∷ l) t = and-both (g a) (all g l) (k a (and-left (f a) (all f l) t)) (all-from f g k l (and-right (f a) (all f l) t))
+
   pub all-append : (f : A → Bool) (a b : List A) → T (all f a) → T (all f b) → T (all f (a ++ b))
   all-append f [] b t u = u
   all-append f (d ∷ a) b t u = and-both (f d) (all f (a ++ b)) (and-left (f d) (all f a) t) (all-append f a b (and-right (f d) (all f a) t) u)

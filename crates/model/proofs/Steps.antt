@@ -5,7 +5,7 @@ use mathlib.Core.List.{List, [], _∷_}
 use mathlib.Core.Option.{Option, none, some, Option·none-ne-some, Option·some-injective}
 use Prim.Native.Nat.{ℕ, suc, _≤_}
 use native.Mathlib.Omega.{arith}
-use lib.Dec.{T, leb, ltb, eqb, leb→le}
+use lib.Dec.{T, leb, eqb, leb→le}
 use lib.ListN.{length}
 use Rattle.model.specs.Searches.{all}
 use Rattle.model.specs.Plan.{Plan, threads, validPlan}
@@ -13,7 +13,7 @@ use Rattle.model.specs.Records.{Create, Delay, Relinquish, End, Take, Gi
 use Rattle.model.specs.State.{State, start}
 use Rattle.model.specs.Priorities.{chosen}
 use Rattle.model.specs.Rules.{Question, firstNo, questions, broken}
-use Rattle.model.specs.Runs.{effect, Outcome, moved, broke, outcome, step, run, judge}
+use Rattle.model.specs.Runs.{effect, moved, broke, outcome, step, run, judge}
 use Rattle.model.specs.Words.{tickOf}
 use Rattle.model.proofs.Tests.{and-left, and-right}
 use Rattle.model.proofs.Performed.{moves}

@@ -1,5 +1,5 @@
 -- The whole check, question by question and then by its walk: what `check` of the specs is on each way.
-use mathlib.Core.Path.{_≡_, refl, ap, sym, subst, _∙_}
+use mathlib.Core.Path.{_≡_, ap, sym, subst, _∙_}
 use mathlib.Core.Logic.{inl, _≢_}
 use mathlib.Core.Bool.{false, cond}
 use mathlib.Core.List.{List, map}

@@ -1,14 +1,14 @@
 -- The known runs once more, as bytes: the whole check answers what document 01 prints.
-use mathlib.Core.Path.{_≡_, refl, ap, sym, _∙_}
+use mathlib.Core.Path.{_≡_, refl, ap}
 use mathlib.Core.Bool.{_&&_}
 use mathlib.Core.List.{List, [], _∷_, map, List·Memᴰ as Mem, List·Memᴰ·head as here, List·Memᴰ·tail as there}
-use mathlib.Core.Option.{Option, none}
-use Prim.Native.Nat.{ℕ, _≤_}
+use mathlib.Core.Option.{none}
+use Prim.Native.Nat.{_≤_}
 use native.Mathlib.Omega.{arith}
 use lib.Dec.{T, leb, leb→le}
 use lib.ListN.{length}
 use Rattle.model.specs.Searches.{all}
-use Rattle.model.specs.Plan.{Plan, validPlan}
+use Rattle.model.specs.Plan.{validPlan}
 use Rattle.model.specs.Records.{allowed}
 use Rattle.model.specs.Runs.{clean, judge}
 use Rattle.model.specs.Known.{planA, runA, Run, runs, Judged, known-runs, known-runs-allowed}
@@ -18,7 +18,7 @@ use Rattle.model.proofs.Laws.{counts-fit}
 use Rattle.plan.specs.Bytes as plans
 use Rattle.plan.specs.Known.{planBytes, planABytes, plan12Bytes}
 use Rattle.plan.proofs.Laws.{known-plans}
-use Rattle.dump.specs.Layout.{decode, encode}
+use Rattle.dump.specs.Layout.{encode}
 use Rattle.dump.specs.Questions.{mostRecords}
 use Rattle.dump.proofs.Laws.{encode-passes, decode-encode}
 use Rattle.monitor.specs.Answers.{judged, check}

@@ -2,7 +2,7 @@
 use mathlib.Core.Path.{_≡_, refl}
 use mathlib.Core.Bool.{Bool, true, false, cond, _&&_}
 use mathlib.Core.List.{List, [], _∷_, map}
-use mathlib.Core.Option.{none, some, Option·some-ne-none}
+use mathlib.Core.Option.{none, some}
 use Prim.Native.Nat.{ℕ, _≤_}
 use native.Mathlib.Omega.{arith}
 use lib.Dec.{T, eqb, leb, ltb, eqb-refl, leb→le, eqb→eq, ltb→lt}
@@ -11,17 +11,9 @@ use Rattle.model.specs.Searches.{all, upTo}
 use Rattle.model.specs.Plan.{validPlan}
 use Rattle.model.specs.Rules.{Question, firstNo}
 use Rattle.model.proofs.Tests.{is-true, and-left, and-right}
+use Rattle.model.proofs.Laws.{all-yes}
 use Rattle.plan.specs.Bytes.{threadCount, sectionCount, between, inRange, isPriority, needsWithin, hasCounts, hasLength, hasPriorities, hasNeeds, questions, refusal, number, Whole}
 use Rattle.model.proofs.Loops.{and-true, length-listed}
-
--- where the first No is none, every answer is Yes
-pub all-Yes : (qs : List Question) → firstNo qs ≡ none → T (all (λ q. q .answer) qs)
-all-Yes [] e = tt
-all-Yes (q ∷ qs) e = go (q .answer) (all-Yes qs) e
-  where
-    go : (b : Bool) → (firstNo qs ≡ none → T (all (λ q. q .answer) qs)) → cond b (firstNo qs) (some (q .number)) ≡ none → T (b && all (λ q. q .answer) qs)
-    go true k e = k e
-    go false k e = absurd (Option·some-ne-none (q .number) e)
 
 -- where no question has the number 0, the answer 0 says that the first No is none
 pub zero-none : (qs : List Question) → T (all (λ q. ltb 0 (q .number)) qs) → number (firstNo qs) ≡ 0 → firstNo qs ≡ none
@@ -41,16 +33,7 @@ pub record Accepted (bytes : List ℕ) : Type 0 where
 
 pub accepted : (bytes : List ℕ) → refusal bytes ≡ none → Accepted bytes
 unfolding refusal questions
-accepted bytes e =
-    let r = each (hasCounts bytes) (hasLength bytes) (hasPriorities bytes) (hasNeeds bytes) (all-Yes (questions bytes) e) in
-    record { counts = r .0; size = r .1; priorities = r .2; needs = r .3 }
-  where
-    each : (a b c d : Bool) → T (a && (b && (c && (d && true)))) → T a × T b × T c × T d
-    each true true true true t = (tt, tt, tt, tt)
-    each true true true false t = absurd t
-    each true true false d t = absurd t
-    each true false c d t = absurd t
-    each false b c d t = absurd t
+accepted bytes e = let r = all-yes (questions bytes) e in record { counts = r .0; size = r .1 .0; priorities = r .1 .1 .0; needs = r .1 .1 .1 .0 }
 
 -- the answer Yes to question 1, and to questions 1 and 2, in numbers
 pub in-range : (threads sections : ℕ) → T (inRange threads sections) → (threads ≤ 16) × (sections ≤ 16)

@@ -17,7 +17,7 @@ use Rattle.model.proofs.Loops.{listed, length-listed}
 use Rattle.plan.proofs.Answers.{valid-listed}
 use Rattle.plan.proofs.Entries.{valid-view}
 -- what the answers to questions say, of any questions and of those of a plan
-pub use Rattle.plan.proofs.Answers.{all-Yes, zero-none, in-range, accepted, whole}
+pub use Rattle.plan.proofs.Answers.{zero-none, in-range, accepted, whole}
 -- base and needs of a thread, from the parts of the struct that they are read from
 pub use Rattle.plan.proofs.Entries.{base-view, mayTake-view}
 -- question 4 in its own words

@@ -1,7 +1,6 @@
 // The one loop over records: the whole check walks over all of a dump, a live step over one.
 ghost use mathlib.Core.Path.{_≡_};
 ghost use Prim.Native.Nat.{_<_};
-ghost use Rattle.model.specs.Formed.{lastTick};
 ghost use Rattle.walk.specs.Contracts.{dueRule, Walks, WalkEnds};
 use dump::layout::Entry;
 use dump::layout::entry_at;

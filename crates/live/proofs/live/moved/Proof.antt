@@ -1,7 +1,5 @@
 -- `moved` meets its contract: the number due is that of the state after the record.
-use mathlib.Core.Path.{ap}
 use borrow.Author.Needs.{needs}
-use Rattle.live.specs.declared.live.Reply.the-variants as says
 use Rattle.live.proofs.live.moved.Statement.{statement}
 use Rattle.live.proofs.live.moved.Tie as tie
 

@@ -8,7 +8,7 @@ use borrow.Author.Needs.{needs}
 use lib.ListN.{length, length-set, getD}
 use lib.Seq.{take-all}
 use Rattle.model.specs.Plan.{bit}
-use Rattle.model.proofs.Loops.{Filled, fill-begin, stored, full}
+use Rattle.model.proofs.Loops.{Filled, stored, full}
 use Rattle.plan.proofs.ceilings.raised.Statement.{statement}
 use Rattle.plan.proofs.ceilings.raised.Tie as tie
 

@@ -11,7 +11,7 @@ use borrow.Author.Tests.{eq-eqb, ne-eqb}
 use lib.Dec.{T, eqb, ltb, eqb→eq, ltb→lt}
 use lib.ListN.{length, length-set}
 use Rattle.model.specs.Records as records
-use Rattle.model.specs.Records.{call, report}
+use Rattle.model.specs.Records.{call}
 use Rattle.model.proofs.Tests.{from-true, and-left, and-right, equal?}
 use Rattle.plan.specs.declared.Plan.{Plan}
 use Rattle.machine.specs.declared.calls.Called.{Called}

@@ -1,0 +1,1 @@
+-- The proof of this library's function is beside this file.
