@@ -10,7 +10,7 @@ use Rattle.plan.specs.View.{Fits}
 use Rattle.lists.specs.Words.{nibble}
 use Rattle.lists.specs.Lists.{queued}
 use Rattle.machine.specs.declared.Machine.{Machine}
-use Rattle.machine.specs.Contracts.{Counts}
+use Rattle.lists.specs.Choice.{Counts}
 
 -- a thread of this condition's number stands once in the queue if it is ready, once in the waits if it waits, and nowhere else
 abbrev pub standsBy : (queue waits : List ℕ) (state thread : ℕ) → Bool

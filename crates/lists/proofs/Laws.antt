@@ -23,6 +23,10 @@ pub use Rattle.lists.proofs.Holdings.{all-none, AnyLeft, missed, found,
 pub use Rattle.lists.proofs.Queues.{filter-kept, filter-dropped}
 -- a word has as many numbers that pass a test as are counted, at most
 pub use Rattle.lists.proofs.Queues.{times-within}
+-- numbers for threads, and back
+pub use Rattle.lists.proofs.Numbered.{numbered-threadOf, threadOf-numbered, number-is}
+-- while nobody waits every thread has its base, whoever is taken for the owner
+pub use Rattle.lists.proofs.Current.{skip-owner}
 
 -- a list has as many entries as its count says
 

@@ -2,4 +2,7 @@
 mod Words
 mod Holdings
 mod Queues
+mod Numbered
+mod Current
+mod Heirs
 pub mod Laws

@@ -11,9 +11,13 @@ use Rattle.lists.specs.declared.holds.Holds.{Holds}
 use Rattle.lists.specs.Words.{nibbles, entryOf}
 
 -- nobody is 255
+
 abbrev pub numbered : Option ℕ → ℕ
 numbered none = 255
 numbered (some t) = t
+
+abbrev pub threadOf : ℕ → Option ℕ
+threadOf n = cond (eqb n 255) none (some n)
 
 abbrev pub queued : Queue → List ℕ
 queued q = nibbles (q .count) (q .items)

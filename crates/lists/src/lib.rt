@@ -2,3 +2,4 @@
 pub mod nibbles; // nibbles.rt: four bits of a word, read and set
 pub mod queue; // queue.rt: threads in order, the ready queue and the waits
 pub mod holds; // holds.rt: who holds which section
+pub mod choice; // choice.rt: owner, current priority, chosen thread, heir

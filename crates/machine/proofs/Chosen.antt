@@ -1,21 +1,21 @@
 -- Who is chosen: the code's numbers for owner, current priority and chosen thread are the model's.
 use mathlib.Core.Path.{_≡_, refl, ap, ap₂, sym, fun-ext, _∙_}
 use mathlib.Core.Logic.{_⊎_, inl, inr}
-use mathlib.Core.Bool.{Bool, true, false, cond, not, _&&_}
-use mathlib.Core.List.{List, [], _∷_, map, List·Memᴰ as Mem, List·Memᴰ·head as here, List·Memᴰ·tail as there}
+use mathlib.Core.Bool.{cond, not, _&&_}
+use mathlib.Core.List.{List, map}
 use mathlib.Core.Option.{Option, none, some, Option·map}
 use Prim.Native.Nat.{ℕ, max, _≤_, _<_}
 use native.Mathlib.Omega.{arith}
 use lib.Dec.{T, eqb, ltb, ltb→lt, nltb→le}
 use lib.ListN.{getD}
-use Rattle.model.specs.Searches.{all, any, better, firstGreatest, greatest, upTo, same}
+use Rattle.model.specs.Searches.{all, any, firstGreatest, greatest, upTo, same}
 use Rattle.model.specs.Plan.{ceiling, validPlan}
 use Rattle.model.specs.Records.{Report}
 use Rattle.model.specs.State.{Hold}
 use Rattle.model.specs.Priorities.{heldCeiling, greatestHold, current, chosen}
 use Rattle.model.specs.Calls.{aboveAll, rivalled}
 use Rattle.model.proofs.Tests.{split}
-use Rattle.model.proofs.Searches.{greatest-is}
+use Rattle.model.proofs.Searches.{greatest-is, any-agree, firstGreatest-agree, greatest-agree}
 use Rattle.model.proofs.Laws.{ceiling-attained, queue-fits, waits-fit, sections-fit, mayTake-below}
 use Rattle.plan.specs.declared.Plan.{Plan}
 use Rattle.plan.specs.View.{baseIn, view}
@@ -25,12 +25,12 @@ use Rattle.machine.specs.declared.Machine.{Machine}
 use Rattle.lists.specs.declared.queue.Queue.{Queue}
 use Rattle.lists.specs.declared.holds.Holds.{Holds}
 use Rattle.lists.specs.Words.{entryOf}
-use Rattle.lists.specs.Lists.{numbered, queued, held, ceilingIn, currentIn, Positive}
+use Rattle.lists.specs.Lists.{queued, held, ceilingIn, Positive}
+use Rattle.lists.specs.Choice.{ownerIn, priorityIn, chosenIn, rivalledIn, inheritsIn}
 use Rattle.machine.specs.View.{planOf, viewed}
-use Rattle.machine.specs.Contracts.{ownerIn, priorityIn, chosenIn, rivalledIn, inheritsIn, Listed, Ceilings}
+use Rattle.machine.specs.Contracts.{Listed, Ceilings}
 use Rattle.machine.proofs.Facts.{Facts}
 use Rattle.lists.proofs.Laws.{length-queued, length-held}
-use Rattle.machine.proofs.Views.{number-is}
 use Rattle.machine.proofs.Room.{queued-known, waiting-known}
 
 -- the lists of a well-formed machine fit their words, and name threads
@@ -87,25 +87,6 @@ module _ (m : Machine) (v : T (validPlan (planOf m))) {ceilings : List ℕ} (c :
     pub rivalled-is : (x : ℕ) → rivalledIn (baseOf m) ceilings (queued (m .queue)) (held (m .holds)) (queued (m .waits)) x ≡ rivalled (planOf m) x (viewed m due)
     rivalled-is x = ap (λ g. any (λ t. not (eqb t x) && eqb (g t) (g x)) (queued (m .queue))) (fun-ext priority-is)
 
--- searches by functions that agree on the list
-
-module _ {A : Type 0} where
-  pub any-agree : (f g : A → Bool) (l : List A) → ((a : A) → Mem a l → f a ≡ g a) → any f l ≡ any g l
-  any-agree f g [] h = refl
-  any-agree f g (a ∷ l) h = rw (h a (here refl), any-agree f g l (λ b i. h b (there i)))
-
-  pub firstGreatest-agree : (f g : A → ℕ) (l : List A) → ((a : A) → Mem a l → f a ≡ g a) → firstGreatest f l ≡ firstGreatest g l
-  firstGreatest-agree f g [] h = refl
-  firstGreatest-agree f g (a ∷ l) h = rw (firstGreatest-agree f g l (λ b i. h b (there i))) (ap {B = Option A} some (go (firstGreatest g l) refl))
-    where
-      go : (o : Option A) → firstGreatest g l ≡ o → better f a o ≡ better g a o
-      go none e = refl
-      go (some b) e = rw (h a (here refl), h b (there (greatest-is g l b e .0)))
-
-  greatest-agree : (f g : A → ℕ) (l : List A) → ((a : A) → Mem a l → f a ≡ g a) → greatest f l ≡ greatest g l
-  greatest-agree f g [] h = refl
-  greatest-agree f g (a ∷ l) h = rw (h a (here refl), greatest-agree f g l (λ b i. h b (there i)))
-
 -- the table of bases gives every listed thread the base that it has in the plan
 module _ (bases ceilings : List ℕ) {threads : ℕ} {queue : Queue} {holds : Holds} {waits : Queue} (l : Listed threads queue holds waits) where
   table-at : (t : ℕ) → t < threads → entryOf bases t ≡ baseIn threads bases t
@@ -141,39 +122,3 @@ queue-positive p v l = record { at = λ t i. base-positive p v t (l .known t i) 
 
 pub waits-positive : (p : Plan) {queue : Queue} {holds : Holds} {waits : Queue} → T (validPlan (view p)) → Listed (p .threads) queue holds waits → Positive (p .bases) (queued waits)
 waits-positive p v l = record { at = λ t i. base-positive p v t (l .waiting' t i) }
-
--- an owner's number and an urgency give every thread its current priority
-pub record Tells (base : ℕ → ℕ) (owner urgency : ℕ) (ceilings : List ℕ) (hs : List Hold) (ws : List ℕ) : Type 0 where
-  pub at : (t : ℕ) → t < 255 → currentIn base owner urgency t ≡ priorityIn base ceilings hs ws t
-
-module _ (base : ℕ → ℕ) (ceilings : List ℕ) (hs : List Hold) where
-  -- while nobody waits every thread has its base, the owner too
-  pub skip-owner : (owner t : ℕ) → currentIn base owner 0 t ≡ priorityIn base ceilings hs [] t
-  skip-owner owner t = unraised (eqb owner t) ∙ sym (unraised (same (ownerIn ceilings hs) (some t)))
-    where
-      unraised : (b : Bool) → cond b (max (base t) 0) (base t) ≡ base t
-      unraised true = omega arith
-      unraised false = refl
-
-  -- so where nobody waits any owner will do
-  pub any-owner : (owner : ℕ) {ws : List ℕ} → ws ≡ [] → Tells base owner 0 ceilings hs ws
-  any-owner owner e = record { at = λ t h. rw e (skip-owner owner t) }
-
-  pub the-owner : (ws : List ℕ) → Tells base (numbered (ownerIn ceilings hs)) (greatest base ws) ceilings hs ws
-  the-owner ws = record { at = λ t h. ap (λ b. cond b (max (base t) (greatest base ws)) (base t)) (number-is (ownerIn ceilings hs) t (λ e. omega arith)) }
-
-  -- numbers that were found to be these, and an urgency of 0 where nobody waits
-
-  pub found-owner : {owner urgency : ℕ} (ws : List ℕ) → owner ≡ numbered (ownerIn ceilings hs) → urgency ≡ greatest base ws → Tells base owner urgency ceilings hs ws
-  found-owner ws o u = record { at = λ t h. rw (o, u) (the-owner ws .at t h) }
-
-  pub no-urgency : {owner urgency : ℕ} {ws : List ℕ} → urgency ≡ 0 → ws ≡ [] → Tells base owner urgency ceilings hs ws
-  no-urgency {owner} u e = record { at = λ t h. rw u (any-owner owner e .at t h) }
-
--- with such numbers the chosen thread of a queue is found, and whether a thread is rivalled
-module _ {base : ℕ → ℕ} {owner urgency : ℕ} {ceilings : List ℕ} {hs : List Hold} {ws : List ℕ} (tells : Tells base owner urgency ceilings hs ws) (q : List ℕ) (known : (t : ℕ) → Mem t q → t < 255) where
-  pub chosen-by : firstGreatest (currentIn base owner urgency) q ≡ chosenIn base ceilings q hs ws
-  chosen-by = firstGreatest-agree (currentIn base owner urgency) (priorityIn base ceilings hs ws) q (λ t i. tells .at t (known t i))
-
-  pub rivalled-by : (x : ℕ) → x < 255 → any (λ t. not (eqb t x) && eqb (currentIn base owner urgency t) (currentIn base owner urgency x)) q ≡ rivalledIn base ceilings q hs ws x
-  rivalled-by x h = any-agree _ _ q (λ t i. ap₂ (λ (a b : ℕ). not (eqb t x) && eqb a b) (tells .at t (known t i)) (tells .at x h))

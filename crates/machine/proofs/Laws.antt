@@ -15,10 +15,11 @@ use Rattle.model.specs.Formed.{lastTick, formed}
 use Rattle.model.proofs.Laws.{Reached, WellFormed, well-formed, reached-formed}
 use Rattle.plan.specs.View as plans
 use Rattle.plan.specs.declared.Plan.{Plan}
+use Rattle.lists.specs.Choice.{Counts}
 use Rattle.machine.specs.declared.Machine.{Machine}
 use Rattle.machine.specs.declared.state.State.{State}
 use Rattle.machine.specs.View.{planOf, view}
-use Rattle.machine.specs.Contracts.{Counts, Formed, Ceilings, Chooses}
+use Rattle.machine.specs.Contracts.{Formed, Ceilings, Chooses}
 use Rattle.machine.specs.Steps.{Answers}
 use Rattle.machine.proofs.Views.{sized}
 use Rattle.machine.proofs.Facts.{facts}

@@ -2,7 +2,6 @@
 mod Arrays
 mod Sized
 mod Conditions
-mod Heirs
 mod Views
 mod Facts
 mod Admitted

@@ -30,6 +30,7 @@ use Rattle.machine.specs.declared.reports.Report as declared
 use Rattle.machine.specs.declared.reports.Reports.{Reports}
 use Rattle.machine.specs.declared.state.State.{State}
 use Rattle.lists.specs.Lists.{numbered}
+use Rattle.lists.proofs.Laws.{threadOf-numbered}
 use Rattle.machine.specs.Lists.{threadOf, reportOf, noReport, owed}
 use Rattle.machine.specs.View.{planOf, viewed, idle, view}
 use Rattle.machine.specs.Rules.{ruleNumber, reportRule}
@@ -37,7 +38,6 @@ use Rattle.machine.specs.Contracts.{Formed, CreateAsked, Asked, SectionA
 use Rattle.machine.specs.Steps.{IsReport, Steps, Settles, stateOf, Answers}
 use Rattle.machine.proofs.Admitted.{asked, by}
 use Rattle.machine.proofs.Arrays.{stored-next}
-use Rattle.machine.proofs.Views.{threadOf-numbered}
 use Rattle.machine.proofs.Facts.{facts}
 use Rattle.machine.proofs.Room.{queued-known}
 use Rattle.machine.proofs.Quieted.{Quiet, quiet-tick}

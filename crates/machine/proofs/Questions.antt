@@ -24,12 +24,13 @@ use Rattle.machine.specs.declared.reports.Report as declared
 use Rattle.machine.specs.declared.slots.Slots.{Slots}
 use Rattle.lists.specs.Words.{nibble}
 use Rattle.lists.specs.Lists.{numbered, held}
+use Rattle.lists.proofs.Laws.{number-is}
 use Rattle.machine.specs.Lists.{reportOf}
 use Rattle.machine.specs.View.{conditionsOf}
 use Rattle.machine.specs.Rules.{ruleNumber, runRule, freeRule, createRule, takeRule, giveRule, reportRule}
 use Rattle.machine.specs.Steps.{IsReport}
 use Rattle.machine.proofs.Conditions.{dormant-state}
-use Rattle.machine.proofs.Views.{condition-at, number-is}
+use Rattle.machine.proofs.Views.{condition-at}
 use Rattle.machine.proofs.ReportKinds.{kind-is, same-named}
 
 -- what is asked of a call behind 21

@@ -17,13 +17,14 @@ use Rattle.plan.specs.View.{inUse}
 use Rattle.model.proofs.Loops.{all-of-more}
 use Rattle.lists.specs.Words.{nibble, entryOf}
 use Rattle.lists.specs.Lists.{numbered, queued, held}
-use Rattle.lists.proofs.Laws.{queued-empty, length-held}
+use Rattle.lists.specs.Choice.{ownerIn, chosenIn}
+use Rattle.lists.proofs.Laws.{queued-empty, length-held, skip-owner}
 use Rattle.machine.specs.declared.Machine.{Machine}
 use Rattle.machine.specs.View.{planOf}
-use Rattle.machine.specs.Contracts.{ownerIn, chosenIn, Ticks, Still}
+use Rattle.machine.specs.Contracts.{Ticks, Still}
 use Rattle.machine.proofs.Conditions.{asleep-until}
 use Rattle.machine.proofs.Facts.{Facts, facts}
-use Rattle.machine.proofs.Chosen.{listed, chosen-is, chosen-same, skip-owner}
+use Rattle.machine.proofs.Chosen.{listed, chosen-is, chosen-same}
 use Rattle.machine.proofs.Quieted.{NoneUntil, still-tick}
 
 -- a thread's tick number, where none of sixteen is this one

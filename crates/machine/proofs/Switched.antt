@@ -18,11 +18,11 @@ use Rattle.machine.specs.declared.reports.Reports.{Reports}
 use Rattle.machine.specs.declared.Machine.{Machine}
 use Rattle.machine.specs.declared.calls.Called.{Called}
 use Rattle.lists.specs.Lists.{numbered}
+use Rattle.lists.proofs.Laws.{numbered-threadOf, threadOf-numbered}
 use Rattle.machine.specs.Lists.{threadOf, owed}
 use Rattle.machine.specs.View.{planOf, viewed, idle}
 use Rattle.machine.specs.Contracts.{reportsOf}
 use Rattle.machine.specs.Steps.{Settles}
-use Rattle.machine.proofs.Views.{numbered-threadOf, threadOf-numbered}
 
 -- who is chosen does not depend on what is due
 pub chosen-due : (p : Plan) (m : Machine) (due : List Report) → chosen p (viewed m due) ≡ chosen p (idle m)

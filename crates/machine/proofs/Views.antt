@@ -1,15 +1,12 @@
--- What the views of the code's words and arrays are: how long, what stands where, what a change of one entry changes; numbers for threads.
-use mathlib.Core.Path.{_≡_, refl, ap, ap₂, sym, _∙_}
+-- What the views of the code's words and arrays are: how long, what stands where, what a change of one entry changes.
+use mathlib.Core.Path.{_≡_, ap, ap₂, sym, _∙_}
 use mathlib.Core.Logic.{_⊎_, inl, inr, _≢_}
 use mathlib.Core.List.{List, map}
-use mathlib.Core.Option.{Option, none, some}
 use Prim.Native.Nat.{ℕ, _<_}
 use native.Mathlib.Omega.{arith}
-use borrow.Author.Tests.{ne-eqb}
-use lib.Dec.{eqb}
 use lib.ListN.{length, getD, set, length-set}
 use lib.Seq.{getD-set-same, getD-set-other, ext-getD}
-use Rattle.model.specs.Searches.{upTo, same}
+use Rattle.model.specs.Searches.{upTo}
 use Rattle.model.specs.Plan.{threads}
 use Rattle.model.specs.State.{dormant, asleep, waiting}
 use Rattle.model.proofs.Tests.{equal?}
@@ -19,9 +16,8 @@ use Rattle.machine.specs.declared.Machine.{Machine}
 use Rattle.machine.specs.declared.reports.Reports.{Reports}
 use Rattle.machine.specs.declared.slots.Slots.{Slots}
 use Rattle.lists.specs.Words.{nibble}
-use Rattle.lists.specs.Lists.{numbered}
 use Rattle.lists.proofs.Laws.{read-set, read-other}
-use Rattle.machine.specs.Lists.{threadOf, reportOf, noReport, owed}
+use Rattle.machine.specs.Lists.{reportOf, noReport, owed}
 use Rattle.machine.specs.View.{conditionOf, conditionIn, conditionsOf, planOf, idle}
 use Rattle.machine.specs.Contracts.{placed, waitsFor}
 
@@ -69,22 +65,3 @@ module _ (n : ℕ) (slots : Slots) (wakes : List ℕ) (t : ℕ) where
       changed-at (conditionIn slots wakes) (conditionIn (placed slots t 2) (set wakes t k)) n t
       (λ i d. ap₂ (λ (s w : ℕ). conditionOf s (nibble (slots .wants) i) w) (read-other (slots .states) t i 2 (omega arith) d) (getD-set-other wakes t i k 0 d))
       ∙ ap₂ (λ (s w : ℕ). set (conditionsOf n slots wakes) t (conditionOf s (nibble (slots .wants) t) w)) (read-set (slots .states) t 2 (omega arith)) (getD-set-same wakes t k 0 h)
-
--- nobody is 255, and every other number is the thread's own
-
-pub numbered-threadOf : (n : ℕ) → numbered (threadOf n) ≡ n
-numbered-threadOf n = go (equal? n 255)
-  where
-    go : (n ≡ 255) ⊎ (n ≢ 255) → numbered (threadOf n) ≡ n
-    go (inl e) = rw e
-    go (inr d) = rw (ne-eqb n 255 d)
-
-pub threadOf-numbered : (o : Option ℕ) → ((t : ℕ) → o ≡ some t → t < 255) → threadOf (numbered o) ≡ o
-threadOf-numbered none h = refl
-threadOf-numbered (some t) h = let k = h t refl in rw (ne-eqb t 255 (λ e. omega arith))
-
--- numbers are equal where threads are the same
-
-pub number-is : (o : Option ℕ) (t : ℕ) → t ≢ 255 → eqb (numbered o) t ≡ same o (some t)
-number-is none t d = ne-eqb 255 t (λ e. d (sym e))
-number-is (some u) t d = refl

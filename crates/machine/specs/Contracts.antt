@@ -1,11 +1,10 @@
 -- What the machine's functions ask and answer.
 use mathlib.Core.Path.{_≡_}
-use mathlib.Core.Bool.{Bool, true, false, cond, not, _&&_}
+use mathlib.Core.Bool.{Bool, true, cond}
 use mathlib.Core.List.{List, [], _∷_, map, List·Memᴰ as Mem}
-use mathlib.Core.Option.{Option, none, some, Option·map}
-use Prim.Native.Nat.{ℕ, _+_, max, min, _≤_, _<_}
-use lib.Dec.{T, eqb, ltb}
-use Rattle.model.specs.Searches.{all, any, firstGreatest, greatest, same, upTo}
+use Prim.Native.Nat.{ℕ, _+_, min, _≤_, _<_}
+use lib.Dec.{T, eqb}
+use Rattle.model.specs.Searches.{upTo}
 use Rattle.model.specs.Plan as plan
 use Rattle.model.specs.State as state
 use Rattle.model.specs.State.{Condition, dormant, ready, asleep, waiting}
@@ -19,7 +18,8 @@ use Rattle.plan.specs.declared.Plan.{Plan}
 use Rattle.lists.specs.declared.queue.Queue.{Queue}
 use Rattle.lists.specs.declared.holds.Holds.{Holds}
 use Rattle.lists.specs.Words.{withNibble}
-use Rattle.lists.specs.Lists.{numbered, queued, ceilingIn}
+use Rattle.lists.specs.Lists.{numbered, queued}
+use Rattle.lists.specs.Choice.{Counts}
 use Rattle.machine.specs.declared.Machine.{Machine}
 use Rattle.machine.specs.declared.slots.Slots.{Slots}
 use Rattle.machine.specs.declared.calls.Called.{Called}
@@ -29,25 +29,6 @@ use Rattle.machine.specs.Lists.{owed}
 use Rattle.machine.specs.View.{planOf, viewed, idle}
 use Rattle.machine.specs.Rules.{ruleNumber}
 
--- owner, current priority and chosen thread from the parts that they are read from
-
-abbrev pub ownerIn : (ceilings : List ℕ) → List state.Hold → Option ℕ
-ownerIn ceilings hs = Option·map (λ (h : state.Hold). h .thread) (firstGreatest (ceilingIn ceilings) hs)
-
-abbrev pub priorityIn : (base : ℕ → ℕ) (ceilings : List ℕ) → List state.Hold → (waits : List ℕ) (thread : ℕ) → ℕ
-priorityIn base ceilings hs ws t = cond (same (ownerIn ceilings hs) (some t)) (max (base t) (greatest base ws)) (base t)
-
-abbrev pub chosenIn : (base : ℕ → ℕ) (ceilings queue : List ℕ) → List state.Hold → (waits : List ℕ) → Option ℕ
-chosenIn base ceilings q hs ws = firstGreatest (priorityIn base ceilings hs ws) q
-
-abbrev pub rivalledIn : (base : ℕ → ℕ) (ceilings queue : List ℕ) → List state.Hold → (waits : List ℕ) (thread : ℕ) → Bool
-rivalledIn base ceilings q hs ws x = any (λ t. not (eqb t x) && eqb (priorityIn base ceilings hs ws t) (priorityIn base ceilings hs ws x)) q
-
--- whether an heir's base is above every ceiling of these holds; nobody inherits where nobody waits
-abbrev pub inheritsIn : (base : ℕ → ℕ) (ceilings : List ℕ) → List state.Hold → Option ℕ → Bool
-inheritsIn base ceilings hs none = false
-inheritsIn base ceilings hs (some w) = all (λ h. ltb (ceilingIn ceilings h) (base w)) hs
-
 -- a thread comes into another condition, or waits for a section
 
 abbrev pub placed : Slots → (thread state : ℕ) → Slots
@@ -55,12 +36,6 @@ placed s t k = record { states = withNibble (s .states) t k; wants = s .wants }
 
 abbrev pub waitsFor : Slots → (thread section : ℕ) → Slots
 waitsFor s t n = record { states = withNibble (s .states) t 3; wants = withNibble (s .wants) t n }
-
--- the counts are within the words
-pub record Counts (queue : Queue) (holds : Holds) (waits : Queue) : Type 0 where
-  pub queue' : queue .count ≤ 16
-  pub holds' : holds .count ≤ 16
-  pub waits' : waits .count ≤ 16
 
 -- and those in the queue and in the waits are threads
 pub record Listed (threads : ℕ) (queue : Queue) (holds : Holds) (waits : Queue) : Type 0 where

@@ -1,8 +1,6 @@
 -- The reports of the model that the code's array stands for. Of the array only the first `count` entries are in use.
 use mathlib.Core.Bool.{cond}
 use mathlib.Core.List.{List, map}
-use mathlib.Core.Option.{Option, none, some}
-use Prim.Native.Nat.{ℕ}
 use lib.Dec.{eqb}
 use lib.ListN.{getD, replicate}
 use Rattle.model.specs.Searches.{upTo}
@@ -10,12 +8,7 @@ use Rattle.model.specs.Records.{Ready, Switch, Won, Lost, Yield}
 use Rattle.model.specs.Records as records
 use Rattle.machine.specs.declared.reports.Report.{Report}
 use Rattle.machine.specs.declared.reports.Reports.{Reports}
--- nobody is 255
-
-pub use Rattle.lists.specs.Lists.{numbered}
-
-abbrev pub threadOf : ℕ → Option ℕ
-threadOf n = cond (eqb n 255) none (some n)
+pub use Rattle.lists.specs.Lists.{numbered, threadOf}
 
 -- kinds by document 01's numbers; any other number stands for the report of a thread that no plan has
 abbrev pub reportOf : Report → records.Report

@@ -2,7 +2,6 @@
 pub mod time; // time.rt: tick numbers and waits
 pub mod reports; // reports.rt: the reports of a call
 pub mod slots; // slots.rt: the conditions of the threads
-pub mod choice; // choice.rt: owner, current priority, chosen thread, heir
 pub mod calls; // calls.rt: what each call does
 pub mod state; // state.rt: a machine with the reports that it owes
 pub mod rules; // rules.rt: the questions asked of a record

@@ -216,3 +216,22 @@ pub pigeonhole : (n : ℕ) (l : List ℕ) → Distinct l → ((a : ℕ) → Mem 
 pigeonhole zero [] h f = omega arith
 pigeonhole zero (a ∷ l) h f = absurd (omega (arith, f a (here refl)))
 pigeonhole (suc n) l h f = omega (arith, without-fewer n l h, pigeonhole n (without n l) (distinct-without n l h) (λ a m. let r = stayed n l m in omega (arith, f a (r .0), r .1)))
+
+-- searches by functions that agree on the list
+
+module _ {A : Type 0} where
+  pub any-agree : (f g : A → Bool) (l : List A) → ((a : A) → Mem a l → f a ≡ g a) → any f l ≡ any g l
+  any-agree f g [] h = refl
+  any-agree f g (a ∷ l) h = rw (h a (here refl), any-agree f g l (λ b i. h b (there i)))
+
+  pub firstGreatest-agree : (f g : A → ℕ) (l : List A) → ((a : A) → Mem a l → f a ≡ g a) → firstGreatest f l ≡ firstGreatest g l
+  firstGreatest-agree f g [] h = refl
+  firstGreatest-agree f g (a ∷ l) h = rw (firstGreatest-agree f g l (λ b i. h b (there i))) (ap {B = Option A} some (go (firstGreatest g l) refl))
+    where
+      go : (o : Option A) → firstGreatest g l ≡ o → better f a o ≡ better g a o
+      go none e = refl
+      go (some b) e = rw (h a (here refl), h b (there (greatest-is g l b e .0)))
+
+  pub greatest-agree : (f g : A → ℕ) (l : List A) → ((a : A) → Mem a l → f a ≡ g a) → greatest f l ≡ greatest g l
+  greatest-agree f g [] h = refl
+  greatest-agree f g (a ∷ l) h = rw (h a (here refl), greatest-agree f g l (λ b i. h b (there i)))

@@ -18,9 +18,10 @@ use Rattle.plan.specs.View.{baseIn}
 use Rattle.machine.specs.declared.Machine.{Machine}
 use Rattle.lists.specs.Words.{nibble, entryOf}
 use Rattle.lists.specs.Lists.{numbered, queued, held}
+use Rattle.lists.specs.Choice.{inheritsIn}
 use Rattle.machine.specs.declared.slots.Slots.{Slots}
 use Rattle.machine.specs.View.{conditionsOf, planOf, idle}
-use Rattle.machine.specs.Contracts.{inheritsIn, Ceilings}
+use Rattle.machine.specs.Contracts.{Ceilings}
 use Rattle.machine.proofs.Admitted.{Gives, admits, refuses, by}
 use Rattle.machine.proofs.Asking.{give-rule, gives}
 use Rattle.machine.proofs.Conditions.{wants-it}

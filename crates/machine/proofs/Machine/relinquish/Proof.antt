@@ -14,9 +14,10 @@ use Rattle.model.specs.Calls.{rivalled, relinquish}
 use Rattle.lists.specs.Words.{entryOf}
 use Rattle.machine.specs.declared.Machine.{Machine}
 use Rattle.lists.specs.Lists.{queued, held}
+use Rattle.lists.specs.Choice.{rivalledIn}
 use Rattle.machine.specs.View.{planOf, idle}
 use Rattle.machine.specs.Rules.{runRule}
-use Rattle.machine.specs.Contracts.{rivalledIn, Asked, Ceilings}
+use Rattle.machine.specs.Contracts.{Asked, Ceilings}
 use Rattle.machine.proofs.Admitted.{Runs, admits, refuses, by}
 use Rattle.machine.proofs.Asking.{relinquish-rule, relinquishes}
 use Rattle.machine.proofs.Facts.{facts}

@@ -10,12 +10,13 @@ use lib.Dec.{ltb}
 use Rattle.model.specs.Searches.{any, better, firstGreatest}
 use Rattle.model.specs.State as state
 use Rattle.model.proofs.Searches.{greatest-is}
 use Rattle.lists.specs.Words.{nibbles}
-use Rattle.lists.specs.Lists.{numbered, ceilingIn}
-use Rattle.lists.proofs.Laws.{first, ended, overtaken, replaced, stayed, all-none, nibbles-small}
-use Rattle.machine.specs.Lists.{threadOf}
-use Rattle.machine.specs.Contracts.{inheritsIn}
-use Rattle.machine.proofs.Views.{threadOf-numbered}
+use Rattle.lists.specs.Lists.{numbered, threadOf, ceilingIn}
+use Rattle.lists.proofs.Queues.{first, ended, overtaken, replaced, stayed}
+use Rattle.lists.proofs.Holdings.{all-none}
+use Rattle.lists.proofs.Laws.{nibbles-small}
+use Rattle.lists.specs.Choice.{inheritsIn}
+use Rattle.lists.proofs.Numbered.{threadOf-numbered}
 
 -- the hold's ceiling bars a thread of this base
 abbrev pub bars : (ceilings : List ℕ) (base : ℕ) → state.Hold → Bool

@@ -7,12 +7,12 @@ use borrow.Author.Needs.{needs}
 use borrow.Author.Tests.{lt-ltb, le-ltb}
 use Rattle.model.specs.Searches.{any}
 use Rattle.model.specs.State as state
 use Rattle.lists.specs.Words.{entryOf}
 use Rattle.lists.specs.Lists.{queued, held}
 use Rattle.lists.proofs.Laws.{nobody, AnyLeft, missed, found, none-found}
-use Rattle.machine.proofs.Heirs.{bars, HeirLeft, turns-to, stays, found-heir}
-use Rattle.machine.proofs.choice.find_heir.Statement.{statement}
-use Rattle.machine.proofs.choice.find_heir.Tie as tie
+use Rattle.lists.proofs.Heirs.{bars, HeirLeft, turns-to, stays, found-heir}
+use Rattle.lists.proofs.choice.find_heir.Statement.{statement}
+use Rattle.lists.proofs.choice.find_heir.Tie as tie
 
 -- only the sections are walked, so whichever threads hold them
 abbrev Inv-loop : tie.InvT-loop

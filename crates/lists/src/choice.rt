@@ -2,11 +2,11 @@
 ghost use mathlib.Core.Path.{_≡_};
 ghost use Prim.Native.Nat.{_≤_, _<_};
 ghost use Rattle.model.specs.Searches.{firstGreatest};
 ghost use Rattle.lists.specs.Words.{entryOf};
 ghost use Rattle.lists.specs.Lists.{numbered, queued, held, Positive};
-ghost use Rattle.machine.specs.Contracts.{chosenIn, rivalledIn, inheritsIn, Counts};
-use lists::holds::Holds;
-use lists::queue::Queue;
+ghost use Rattle.lists.specs.Choice.{chosenIn, rivalledIn, inheritsIn, Counts};
+use crate::holds::Holds;
+use crate::queue::Queue;
 
 // The waiting thread that a Give turns to, 255 for nobody, and whether no held ceiling bars it.
 pub struct Heir {
@@ -15,7 +15,7 @@ pub struct Heir {
 }
 
 // The first in the queue of greatest current priority, 255 for nobody. While nobody waits the owner has its base.
-pub(crate) fn chosen_of(
+pub fn chosen_of(
     bases: [u8; 16],
     ceilings: &[u8; 16],
     queue: Queue,
@@ -35,7 +35,7 @@ pub(crate) fn chosen_of(
 }
 
 // Whether another ready thread has this thread's current priority.
-pub(crate) fn rivalled_of(
+pub fn rivalled_of(
     bases: [u8; 16],
     ceilings: &[u8; 16],
     queue: Queue,
@@ -56,7 +56,7 @@ pub(crate) fn rivalled_of(
 }
 
 // The waiting thread of greatest base, on a tie the longest waiting; the walk of the held ceilings ends where one bars it.
-pub(crate) fn find_heir(bases: [u8; 16], ceilings: &[u8; 16], waits: Queue, holds: Holds) -> Heir
+pub fn find_heir(bases: [u8; 16], ceilings: &[u8; 16], waits: Queue, holds: Holds) -> Heir
     requires { ⌜ (waits .count ≤ 16) × (holds .count ≤ 16) × Positive bases (queued waits) ⌝ }
     ensures { λ r. ⌜ (r .who ≡ numbered (firstGreatest (entryOf bases) (queued waits))) × (r .free ≡ inheritsIn (entryOf bases) (now (ceilings .entry)) (held holds) (firstGreatest (entryOf bases) (queued waits))) ⌝ }
 {

@@ -2,12 +2,12 @@
 use mathlib.Core.Path.{_∙_}
 use mathlib.Core.Logic.{⊎-elim}
 use native.Mathlib.Omega.{arith}
 use Rattle.lists.specs.Words.{entryOf}
 use Rattle.lists.specs.Lists.{queued, held}
 use Rattle.lists.proofs.Laws.{queued-empty, nibbles-small}
-use Rattle.machine.proofs.Chosen.{Tells, found-owner, no-urgency, rivalled-by}
-use Rattle.machine.proofs.choice.rivalled_of.Statement.{statement}
-use Rattle.machine.proofs.choice.rivalled_of.Tie as tie
+use Rattle.lists.proofs.Current.{Tells, found-owner, no-urgency, rivalled-by}
+use Rattle.lists.proofs.choice.rivalled_of.Statement.{statement}
+use Rattle.lists.proofs.choice.rivalled_of.Tie as tie
 
 owner-requires : tie.Need-owner-requires
 owner-requires c κs = c .before .before .pre .0 .holds'
