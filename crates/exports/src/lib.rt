@@ -8,6 +8,7 @@ ghost use Rattle.exports.specs.Numbers.{verdictNumber, verdictAt, verdic
 ghost use Rattle.exports.specs.Contracts.{Tells, Begins, Steps};
 use kernel::bench::Written;
 use kernel::bench::bench;
+use live::lent;
 use live::live::Begun;
 use live::live::Reply;
 use live::live::Watch;

@@ -38,10 +38,10 @@ use Rattle.live.specs.Contracts as live
 use Rattle.live.proofs.live.Watch as W
 use Rattle.live.proofs.live.Reply as R
 use Rattle.live.proofs.live.Reply.Laws as R′
-use Rattle.lent.proofs.step as lent
-use Rattle.lent.proofs.step.Symbol as lent-def
-use Rattle.lent.proofs.step.Symbol.{name as #lent·step}
-use Rattle.lent.proofs.step.Met as lent-thm
+use Rattle.live.proofs.lent.step as lent
+use Rattle.live.proofs.lent.step.Symbol as lent-def
+use Rattle.live.proofs.lent.step.Symbol.{name as #live·lent·step}
+use Rattle.live.proofs.lent.step.Met as lent-thm
 use Rattle.exports.specs.Numbers.{replyNumber, replyDue}
 use Rattle.exports.specs.Contracts.{Tells, Steps}
 use Rattle.exports.proofs.tell as tell
@@ -128,7 +128,7 @@ module _ {M : Type 1} (𝓤 : URA M) (H : Heap 𝓤) (A : Atoms 𝓤) (G : Given
         nothing ! $ move ! (2 ∷ 0 ∷ []) $ fjoin ! $ owned ! u16 (Is u16) (uint-makes 𝓤 H A G w16) n _ (refl, n-fits) $ fjoin ! $
         owned ! u8 (Is u8) (uint-makes 𝓤 H A G w8) k _ (refl, k-fits) $ fjoin ! $ move ! (2 ∷ 0 ∷ []) $ fjoin ! $ done !
 
-  module _ (C : Calls 𝓤 H) (Λ : Loops 𝓤 H) (fm : FmC 𝓤 H (G .laws) C) (known-lent : Triple 𝓤 (C #lent·step) (Lent 𝓤 H A at-mem run)) (known-tell : Triple 𝓤 (C #exports·tell) (Tell 𝓤 H A at-mem run)) where
+  module _ (C : Calls 𝓤 H) (Λ : Loops 𝓤 H) (fm : FmC 𝓤 H (G .laws) C) (known-lent : Triple 𝓤 (C #live·lent·step) (Lent 𝓤 H A at-mem run)) (known-tell : Triple 𝓤 (C #exports·tell) (Tell 𝓤 H A at-mem run)) where
     walk : ent 𝓤 (onEntry 𝓤 H A step.signature (κ, (κ′, tt)) (q, (q′, tt)) args at) (WpFn 𝓤 H C Λ code.function (vptr b o ∷ vint w8 k ∷ vint w16 n ∷ vptr b′ o′ ∷ []) Post)
     walk =
         qed G ((‵ (flft κ q) ⊛ ‵ (flft κ′ q′) ⊛ ‵ ftrue) ∷ ‵ (owns (MutRef (named 0) κ W.the-row ∷ u8 ∷ u16 ∷ MutRef (named 1) κ′ u64 ∷ []) args at) ∷ []) ∵
@@ -168,7 +168,7 @@ module _ {M : Type 1} (𝓤 : URA M) (H : Heap 𝓤) (A : Atoms 𝓤) (G : Given
         keep ! (0 ∷ 1 ∷ 2 ∷ 3 ∷ 4 ∷ []) $ by ! (exits (gk .1) (gn .1) a u (ws .0) (ds .1 .0) (steps e f))))))))))))))))))))))
 
 module _ {M : Type 1} (𝓤 : URA M) (H : Heap 𝓤) (A : Atoms 𝓤) (G : Given 𝓤 H A) (at-mem : Memory → SProp 𝓤) (run : Routine → Fun 𝓤) where
-  step-walks : (C : Calls 𝓤 H) (Λ : Loops 𝓤 H) → FmC 𝓤 H (G .laws) C → Triple 𝓤 (C #lent·step) (Lent 𝓤 H A at-mem run) → Triple 𝓤 (C #exports·tell) (Tell 𝓤 H A at-mem run)
+  step-walks : (C : Calls 𝓤 H) (Λ : Loops 𝓤 H) → FmC 𝓤 H (G .laws) C → Triple 𝓤 (C #live·lent·step) (Lent 𝓤 H A at-mem run) → Triple 𝓤 (C #exports·tell) (Tell 𝓤 H A at-mem run)
       → Walks 𝓤 H A step.ended stayed (WpFn 𝓤 H C Λ code.function) (step.clauses 𝓤 H A at-mem run)
   step-walks C Λ fm known-lent known-tell =
       walked 𝓤 H A step.ended stayed (step.clauses 𝓤 H A at-mem run) (WpFn 𝓤 H C Λ code.function)
@@ -184,7 +184,7 @@ module _ {M : Type 1} (𝓤 : URA M) (H : Heap 𝓤) (A : Atoms 𝓤) (G : Given
       (goes-gave-ref 𝓤 H A G 2 0 tt (plain (λ _. W.the-row)), (goes-none 𝓤 H A G 2 (λ _. u8) yes (λ κs x f. refl), (goes-none 𝓤 H A G 2 (λ _. u16) yes (λ κs x f. refl), (goes-gave-ref 𝓤 H A G 2 1 tt (plain (λ _. u64)), tt))))
 
 step-meets : {M : Type 1} (𝓤 : URA M) (H : Heap 𝓤) (A : Atoms 𝓤) (G : Given 𝓤 H A) (at-mem : Memory → SProp 𝓤) (run : Routine → Fun 𝓤) (𝓣 : Tables 𝓤 H)
-    → Triple 𝓤 (𝓣 .C #lent·step) (Lent 𝓤 H A at-mem run) → Triple 𝓤 (𝓣 .C #exports·tell) (Tell 𝓤 H A at-mem run)
+    → Triple 𝓤 (𝓣 .C #live·lent·step) (Lent 𝓤 H A at-mem run) → Triple 𝓤 (𝓣 .C #exports·tell) (Tell 𝓤 H A at-mem run)
     → Meets 𝓤 H A step.signature (WpFn 𝓤 H (𝓣 .C) (𝓣 .Λ) code.function) (step.spec 𝓤 H A at-mem run)
 step-meets 𝓤 H A G at-mem run 𝓣 known-lent known-tell =
     walk-meets 𝓤 H A step.ended stayed G (goes 𝓤 H A G at-mem run) (step.clauses 𝓤 H A at-mem run) (WpFn 𝓤 H (𝓣 .C) (𝓣 .Λ) code.function)
@@ -196,5 +196,5 @@ beltcairn-step-spec 𝓤 H 𝓜 𝓖 𝓡 =
     entered 𝓤 H (tripleOf 𝓤 H (𝓖 .A) step.signature (step.spec 𝓤 H (𝓖 .A) (𝓜 .mem) (𝓡 .run)))
     (tables 𝓤 H 𝓜 𝓡 code.env .C) (tables 𝓤 H 𝓜 𝓡 code.env .Λ) #exports·beltcairn-step code.function (code.unfolded 𝓤 H 𝓜 𝓡)
     (step-meets 𝓤 H (𝓖 .A) (givenOf 𝓤 H 𝓜 𝓖) (𝓜 .mem) (𝓡 .run) (tablesOf 𝓤 H 𝓜 (tables 𝓤 H 𝓜 𝓡 code.env))
-    (cited 𝓤 H (Lent 𝓤 H (𝓖 .A) (𝓜 .mem) (𝓡 .run)) 𝓜 𝓡 code.env #lent·step lent-def.routine code.calls-lent·step (lent-thm.met 𝓤 H 𝓜 𝓖 𝓡))
+    (cited 𝓤 H (Lent 𝓤 H (𝓖 .A) (𝓜 .mem) (𝓡 .run)) 𝓜 𝓡 code.env #live·lent·step lent-def.routine code.calls-live·lent·step (lent-thm.met 𝓤 H 𝓜 𝓖 𝓡))
     (cited 𝓤 H (Tell 𝓤 H (𝓖 .A) (𝓜 .mem) (𝓡 .run)) 𝓜 𝓡 code.env #exports·tell tell-def.routine code.calls-exports·tell (tell-thm.met 𝓤 H 𝓜 𝓖 𝓡)))

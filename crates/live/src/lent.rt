@@ -1,8 +1,8 @@
 // The live step on a watch state that is lent, behind a reference.
 ghost use Rattle.live.specs.Contracts.{Tells};
-use live::live::Reply;
-use live::live::Watch;
-use live::live::advance;
+use crate::live::Reply;
+use crate::live::Watch;
+use crate::live::advance;
 
 // Advances a lent watch state by one record, and answers of it. Rules out a step that does not store what it tells.
 pub fn step(watch: &mut Watch, kind: u8, operand: u16) -> Reply

@@ -1,1 +1,0 @@
--- The proof of this library's function is beside this file.
