@@ -8,41 +8,8 @@
  *   dump   N in two bytes (0 to 20,000), N kind bytes, N operands of two bytes. Length 2 + 3N.
  *   list   a call list: as a dump, with kinds 1 to 7 only.
  *
- * Kinds: Create 1, Delay 2, Relinquish 3, End 4, Take 5, Give 6, Tick 7; Ready 16, Switch 17, Won 18, Lost 19, Yield 20.
- * Operand: thread below T for Create and reports (or 65535 for Switch to nobody), section below S for Take and Give, 1 to 65535 for Delay,
- * 0 for Relinquish, End and Tick.
- *
- * Answers. 0 says that nothing was refused and no rule is broken.
- *
- * The question that has the answer No; what was lent keeps its content:
- *    1  Has the plan 2 bytes or more, with T and S in range?
- *    2  Is it exactly 2 + 3T long?
- *    3  Is every priority 1 to 64?
- *    4  Is every needs bit at S or above zero?
- *    5  Has the dump or list 2 bytes or more, and N at most 20,000?
- *    6  Is it exactly 2 + 3N long?
- *    7  Is every kind allowed?
- *    8  Is every operand allowed for its kind?
- *    9  (bench) Does the machine admit every call, each made with earlier reports already given?
- *   10  (bench) Are calls and reports together at most 20,000?
- *   11  (bench) Is the lent output at least 2 + 3 times their number long?
- *   12  (step) Is the lent watch state well formed? No: its plan fails 1 to 4; a thread or section is not below T or S; a report or stored rule
- *       is none of those here; the tick number is above 4,000,000,000 or a sleeper's above 4,000,065,536; a section is held twice; a thread is
- *       listed twice in the line or the waits, or is not in exactly one of its four conditions; or more than T + 1 reports are due.
- *       Asked before 7.
- *   13  (step) Is it no Tick at tick number 4,000,000,000? Asked after 8.
- *
- * The rule that a record breaks, the first that has the answer No:
- *   21  (calls) Is nothing due?
- *   22  (kinds 2 to 6) Does a thread run?
- *   23  (Create) Is the thread dormant?
- *   24  (Delay, End) Does the caller hold no section?
- *   25  (Take) Does the caller need it?
- *   26  (Take) Is it not held by the caller?
- *   27  (Give) Is it the one the caller took last of those it still holds?
- *   28  (reports) Is a report due?
- *   29  Is the first due of this kind?
- *   30  Does it name this thread?
+ * A record is a kind and an operand. Answers are 0, or the number of a question with the answer No, or that of a broken rule. Each has its
+ * constant below.
  *
  * Pointers. Every pointer must be valid for its length, a pointer to bytes also where the length is 0 (any address but NULL), and what a
  * function writes must not overlap anything else that it is passed.
@@ -52,6 +19,63 @@
 
 #include <stddef.h>
 #include <stdint.h>
+
+/* The number of this interface. It rises whenever the layout of struct beltcairn_watch or the signature of a function moves. A program and a
+ * library fit together if beltcairn_abi() answers the number that the program was compiled with. */
+#define BELTCAIRN_ABI 1
+
+/* Kinds of calls, with what the operand is. Calls are made by the running thread; Tick comes from the clock, and Create may also come when
+ * nobody runs. */
+#define BELTCAIRN_KIND_CREATE 1     /* thread below T: it becomes ready at the line's end */
+#define BELTCAIRN_KIND_DELAY 2      /* n, 1 to 65535: the caller sleeps until tick number + n + 1 */
+#define BELTCAIRN_KIND_RELINQUISH 3 /* 0: if another ready thread has the caller's current priority, the caller goes to the line's end */
+#define BELTCAIRN_KIND_END 4        /* 0: the caller becomes dormant */
+#define BELTCAIRN_KIND_TAKE 5       /* section below S: the caller wins if its base priority is above every ceiling held by others */
+#define BELTCAIRN_KIND_GIVE 6       /* section below S: the hold ends, and may pass to a waiting thread */
+#define BELTCAIRN_KIND_TICK 7       /* 0: the tick number grows by one */
+
+/* Kinds of reports. The operand is the thread concerned, below T. */
+#define BELTCAIRN_KIND_READY 16  /* it becomes ready, at the line's end */
+#define BELTCAIRN_KIND_SWITCH 17 /* it runs from now on; BELTCAIRN_NOBODY if nobody does */
+#define BELTCAIRN_KIND_WON 18    /* it holds the section that it wanted */
+#define BELTCAIRN_KIND_LOST 19   /* it waits */
+#define BELTCAIRN_KIND_YIELD 20  /* it goes to the line's end */
+
+/* The operand of a Switch to nobody. In a watch state, where a thread is named by a byte, 255 stands for nobody. */
+#define BELTCAIRN_NOBODY 65535
+
+/* Nothing was refused, and no rule is broken. */
+#define BELTCAIRN_OK 0
+
+/* The question that has the answer No; what was lent keeps its content. */
+#define BELTCAIRN_REFUSED_PLAN_COUNTS 1 /* Has the plan 2 bytes or more, with T and S in range? */
+#define BELTCAIRN_REFUSED_PLAN_LENGTH 2 /* Is it exactly 2 + 3T long? */
+#define BELTCAIRN_REFUSED_PRIORITY 3    /* Is every priority 1 to 64? */
+#define BELTCAIRN_REFUSED_NEEDS 4       /* Is every needs bit at S or above zero? */
+#define BELTCAIRN_REFUSED_COUNT 5       /* Has the dump or list 2 bytes or more, and N at most 20,000? */
+#define BELTCAIRN_REFUSED_LENGTH 6      /* Is it exactly 2 + 3N long? */
+#define BELTCAIRN_REFUSED_KIND 7        /* Is every kind allowed? */
+#define BELTCAIRN_REFUSED_OPERAND 8     /* Is every operand allowed for its kind? */
+#define BELTCAIRN_REFUSED_CALL 9        /* (bench) Does the machine admit every call, each made with earlier reports already given? */
+#define BELTCAIRN_REFUSED_TOO_MANY 10   /* (bench) Are calls and reports together at most 20,000? */
+#define BELTCAIRN_REFUSED_OUTPUT 11     /* (bench) Is the lent output at least 2 + 3 times their number long? */
+/* (step) Is the lent watch state well formed? No: its plan fails 1 to 4; a thread or section is not below T or S; a report or stored rule is
+ * none of those here; the tick number is above 4,000,000,000 or a sleeper's above 4,000,065,536; a section is held twice; a thread is listed
+ * twice in the line or the waits, or is not in exactly one of its four conditions; or more than T + 1 reports are due. Asked before 7. */
+#define BELTCAIRN_REFUSED_STATE 12
+#define BELTCAIRN_REFUSED_TICK 13 /* (step) Is it no Tick at tick number 4,000,000,000? Asked after 8. */
+
+/* The rule that a record breaks: the first that has the answer No. */
+#define BELTCAIRN_BREACH_REPORT_DUE 21     /* (calls) Is nothing due? */
+#define BELTCAIRN_BREACH_NOBODY_RUNS 22    /* (kinds 2 to 6) Does a thread run? */
+#define BELTCAIRN_BREACH_NOT_DORMANT 23    /* (Create) Is the thread dormant? */
+#define BELTCAIRN_BREACH_HOLDS_SECTION 24  /* (Delay, End) Does the caller hold no section? */
+#define BELTCAIRN_BREACH_NOT_NEEDED 25     /* (Take) Does the caller need it? */
+#define BELTCAIRN_BREACH_HELD_ALREADY 26   /* (Take) Is it not held by the caller? */
+#define BELTCAIRN_BREACH_NOT_TAKEN_LAST 27 /* (Give) Is it the one the caller took last of those it still holds? */
+#define BELTCAIRN_BREACH_NONE_DUE 28       /* (reports) Is a report due? */
+#define BELTCAIRN_BREACH_OTHER_KIND 29     /* (reports) Is the first due of this kind? */
+#define BELTCAIRN_BREACH_OTHER_THREAD 30   /* (reports) Does it name this thread? */
 
 #ifdef __cplusplus
 #define BELTCAIRN_ASSERT(holds) static_assert(holds, #holds)
@@ -136,6 +160,9 @@ BELTCAIRN_ASSERT(sizeof(struct beltcairn_reports) == 48);
 BELTCAIRN_ASSERT(sizeof(struct beltcairn_machine) == 216);
 BELTCAIRN_ASSERT(sizeof(struct beltcairn_state) == 272);
 BELTCAIRN_ASSERT(sizeof(struct beltcairn_watch) == 280);
+
+/* The number of the library's interface: BELTCAIRN_ABI of the header that it fits. */
+uint32_t beltcairn_abi(void);
 
 /*
  * The whole check of a plan and a dump.

@@ -4,8 +4,23 @@
 
 #include "../beltcairn.h"
 
-/* Kinds of records; and what a number that is not to change has before a call. */
-enum { CREATE = 1, DELAY, RELINQUISH, END, TAKE, GIVE, TICK, READY = 16, SWITCH, WON, LOST, YIELD };
+/* The header's kinds of records, under names that fit in a table. */
+enum {
+    CREATE = BELTCAIRN_KIND_CREATE,
+    DELAY = BELTCAIRN_KIND_DELAY,
+    RELINQUISH = BELTCAIRN_KIND_RELINQUISH,
+    END = BELTCAIRN_KIND_END,
+    TAKE = BELTCAIRN_KIND_TAKE,
+    GIVE = BELTCAIRN_KIND_GIVE,
+    TICK = BELTCAIRN_KIND_TICK,
+    READY = BELTCAIRN_KIND_READY,
+    SWITCH = BELTCAIRN_KIND_SWITCH,
+    WON = BELTCAIRN_KIND_WON,
+    LOST = BELTCAIRN_KIND_LOST,
+    YIELD = BELTCAIRN_KIND_YIELD
+};
+
+/* What a number that is not to change has before a call. */
 enum { KEPT = 4711 };
 
 #define EXPECT(name, holds) expect((holds) != 0, name, #holds, __FILE__, __LINE__)
@@ -15,7 +30,7 @@ void expect(int holds, const char *name, const char *what, const char *file, int
 /* Whether two watch states have the same content, field by field, since the bytes between fields mean nothing. */
 int same(const struct beltcairn_watch *a, const struct beltcairn_watch *b);
 
-/* layout.c: sizes, offsets, the states that the library makes, and states made here and lent to it. */
+/* layout.c: the number of the interface, the states that the library makes, and states made here and lent to it. */
 void check_layout(void);
 
 #endif

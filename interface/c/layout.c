@@ -3,26 +3,40 @@
 
 #include <string.h>
 
-/* Conditions of threads; nobody where a thread is named. */
+/* Conditions of threads; nobody where a byte names a thread. */
 enum { DORMANT, IS_READY, ASLEEP, WAITING };
 enum { NOBODY = 255 };
 
-#define SIZE(type, size) EXPECT("size", sizeof(struct beltcairn_##type) == (size))
-#define AT(type, field, offset) EXPECT("offset", offsetof(struct beltcairn_##type, field) == (offset))
+/* What the number of the interface stands for: these sizes, fields (each with its offset and size) and signatures. Every line states the
+ * number, so that a line cannot be changed, because something moved, without a look at it. It rises then: here, in the header, in the Rust
+ * wrapper and in crates/exports. */
+#define ABI(number, holds) _Static_assert(BELTCAIRN_ABI == (number) && (holds), "not the interface of this number: " #holds)
+#define SIZE(type, size) (sizeof(struct beltcairn_##type) == (size))
+#define AT(type, field, offset, size) \
+    (offsetof(struct beltcairn_##type, field) == (offset) && sizeof(((struct beltcairn_##type *)0)->field) == (size))
+#define TYPE(function, ...) _Generic(&beltcairn_##function, __VA_ARGS__ : 1, default : 0)
 
-static void sizes_and_offsets(void)
+ABI(1, SIZE(plan, 64) && AT(plan, threads, 0, 8) && AT(plan, sections, 8, 8) && AT(plan, bases, 16, 16) && AT(plan, needs, 32, 32));
+ABI(1, SIZE(slots, 16) && AT(slots, states, 0, 8) && AT(slots, wants, 8, 8));
+ABI(1, SIZE(queue, 16) && AT(queue, items, 0, 8) && AT(queue, count, 8, 8));
+ABI(1, SIZE(holds, 24) && AT(holds, sections, 0, 8) && AT(holds, threads, 8, 8) && AT(holds, count, 16, 8));
+ABI(1, SIZE(report, 2) && AT(report, kind, 0, 1) && AT(report, who, 1, 1));
+ABI(1, SIZE(reports, 48) && AT(reports, items, 0, 34) && AT(reports, count, 40, 8));
+ABI(1, SIZE(machine, 216) && AT(machine, plan, 0, 64) && AT(machine, tick, 64, 4) && AT(machine, slots, 72, 16));
+ABI(1, AT(machine, wakes, 88, 64) && AT(machine, queue, 152, 16) && AT(machine, holds, 168, 24) && AT(machine, waits, 192, 16));
+ABI(1, AT(machine, reported, 208, 1));
+ABI(1, SIZE(state, 272) && AT(state, machine, 0, 216) && AT(state, due, 216, 48) && AT(state, given, 264, 8));
+ABI(1, SIZE(watch, 280) && AT(watch, state, 0, 272) && AT(watch, rule, 272, 1) && _Alignof(struct beltcairn_watch) == 8);
+ABI(1, TYPE(abi, uint32_t (*)(void)));
+ABI(1, TYPE(check, uint8_t (*)(const uint8_t *, size_t, const uint8_t *, size_t, uint64_t *, uint64_t *)));
+ABI(1, TYPE(bench, uint8_t (*)(const uint8_t *, size_t, const uint8_t *, size_t, uint8_t *, size_t, uint64_t *)));
+ABI(1, TYPE(begin, uint8_t (*)(const uint8_t *, size_t, struct beltcairn_watch *)));
+ABI(1, TYPE(step, uint8_t (*)(struct beltcairn_watch *, uint8_t, uint16_t, uint64_t *)));
+
+/* The linked library has the header's number. */
+static void one_interface(void)
 {
-    SIZE(plan, 64), AT(plan, threads, 0), AT(plan, sections, 8), AT(plan, bases, 16), AT(plan, needs, 32);
-    SIZE(slots, 16), AT(slots, states, 0), AT(slots, wants, 8);
-    SIZE(queue, 16), AT(queue, items, 0), AT(queue, count, 8);
-    SIZE(holds, 24), AT(holds, sections, 0), AT(holds, threads, 8), AT(holds, count, 16);
-    SIZE(report, 2), AT(report, kind, 0), AT(report, who, 1);
-    SIZE(reports, 48), AT(reports, items, 0), AT(reports, count, 40);
-    SIZE(machine, 216), AT(machine, plan, 0), AT(machine, tick, 64), AT(machine, slots, 72), AT(machine, wakes, 88);
-    AT(machine, queue, 152), AT(machine, holds, 168), AT(machine, waits, 192), AT(machine, reported, 208);
-    SIZE(state, 272), AT(state, machine, 0), AT(state, due, 216), AT(state, given, 264);
-    SIZE(watch, 280), AT(watch, state, 0), AT(watch, rule, 272);
-    EXPECT("alignment", _Alignof(struct beltcairn_watch) == 8);
+    EXPECT("abi", beltcairn_abi() == BELTCAIRN_ABI);
 }
 
 /* Entry i of a word. */
@@ -169,10 +183,10 @@ static void states_of_one_thread(void)
     EXPECT("one thread", m->holds.count == 2 && holds(&m->holds, 0, 1, 0) && holds(&m->holds, 1, 0, 0));
     step(&watch, GIVE, 1, 0), step(&watch, GIVE, 0, 0), step(&watch, DELAY, 300, 1);
     EXPECT("one thread", m->holds.count == 0 && m->queue.count == 0 && sleeps_until(m, 0, 301) && owes(&watch.state, 0, SWITCH, NOBODY));
-    step(&watch, SWITCH, 65535, 0), step(&watch, TICK, 0, 0);
+    step(&watch, SWITCH, BELTCAIRN_NOBODY, 0), step(&watch, TICK, 0, 0);
     EXPECT("one thread", m->tick == 1 && m->reported == NOBODY && watch.rule == 0);
-    EXPECT("one thread", beltcairn_step(&watch, READY, 0, &due) == 28 && due == KEPT);
-    EXPECT("one thread", m->tick == 1 && watch.rule == 28);
+    EXPECT("one thread", beltcairn_step(&watch, READY, 0, &due) == BELTCAIRN_BREACH_NONE_DUE && due == KEPT);
+    EXPECT("one thread", m->tick == 1 && watch.rule == BELTCAIRN_BREACH_NONE_DUE);
 }
 
 /* A state made here: thread 0 runs and holds the section that thread 2 waits for, thread 1 sleeps until tick number 9, and it is 7. */
@@ -248,7 +262,8 @@ static void refused_step(struct beltcairn_watch watch, uint8_t answer, uint8_t k
 static void ill_formed_states(void)
 {
     struct beltcairn_watch watch;
-#define ILL(change) watch = made(), change, refused_step(watch, 12, TICK, 0), refused_step(watch, 12, 0, 0)
+#define ILL(change) \
+    watch = made(), change, refused_step(watch, BELTCAIRN_REFUSED_STATE, TICK, 0), refused_step(watch, BELTCAIRN_REFUSED_STATE, 0, 0)
     ILL(watch.state.machine.plan.threads = 0);
     ILL(watch.state.machine.plan.threads = 17);
     ILL(watch.state.machine.plan.sections = SIZE_MAX);
@@ -287,16 +302,17 @@ static void refused_steps(void)
 {
     struct beltcairn_watch watch = made();
     uint64_t due = KEPT;
-    refused_step(watch, 7, 0, 0);
-    refused_step(watch, 7, 21, 0);
-    refused_step(watch, 8, CREATE, 3);
-    refused_step(watch, 8, SWITCH, 255);
+    refused_step(watch, BELTCAIRN_REFUSED_KIND, 0, 0);
+    refused_step(watch, BELTCAIRN_REFUSED_KIND, 21, 0);
+    refused_step(watch, BELTCAIRN_REFUSED_OPERAND, CREATE, 3);
+    refused_step(watch, BELTCAIRN_REFUSED_OPERAND, SWITCH, 255);
     watch.state.machine.tick = 4000000000u;
-    refused_step(watch, 8, TICK, 1);
-    refused_step(watch, 13, TICK, 0);
-    watch.rule = 25;
-    refused_step(watch, 13, TICK, 0);
-    EXPECT("stored", beltcairn_step(&watch, RELINQUISH, 0, &due) == 25 && due == KEPT && watch.rule == 25);
+    refused_step(watch, BELTCAIRN_REFUSED_OPERAND, TICK, 1);
+    refused_step(watch, BELTCAIRN_REFUSED_TICK, TICK, 0);
+    watch.rule = BELTCAIRN_BREACH_NOT_NEEDED;
+    refused_step(watch, BELTCAIRN_REFUSED_TICK, TICK, 0);
+    EXPECT("stored", beltcairn_step(&watch, RELINQUISH, 0, &due) == BELTCAIRN_BREACH_NOT_NEEDED && due == KEPT);
+    EXPECT("stored", watch.rule == BELTCAIRN_BREACH_NOT_NEEDED);
     watch.rule = 0;
     watch.state.machine.wakes[1] = 4000065536u;
     step(&watch, RELINQUISH, 0, 0);
@@ -307,7 +323,7 @@ static void refused_steps(void)
 
 void check_layout(void)
 {
-    sizes_and_offsets();
+    one_interface();
     largest_plan();
     states_of_run_a();
     states_of_one_thread();

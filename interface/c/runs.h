@@ -4,7 +4,7 @@
 
 #include "expect.h"
 
-enum { NOBODY = 65535, MOST = 300 };
+enum { NOBODY = BELTCAIRN_NOBODY, MOST = 300 };
 
 struct Record {
     uint8_t kind;

@@ -1,1 +1,3 @@
--- The proofs of this program's functions are beside this file.
+-- What holds of what the program writes, beside the proofs of its functions.
+mod Cut
+mod Room

@@ -1,33 +1,27 @@
 -- Bytes read as records: the records one by one, that they are allowed, and that the bytes are written back.
-use mathlib.Core.Path.{_≡_, refl, ap, sym, subst, _∙_}
+use mathlib.Core.Path.{_≡_, ap, sym, subst, _∙_}
 use mathlib.Core.Logic.{_⊎_, inl, inr, _≢_}
 use mathlib.Core.Bool.{Bool, true, not}
 use mathlib.Core.List.{List, [], _∷_, map}
-use mathlib.Core.Option.{Option, none, some}
+use mathlib.Core.Option.{none}
 use Prim.Native.Nat.{ℕ, zero, suc, _+_, _*_, _-_, _/_, _%_, _≤_, _<_}
 use native.Mathlib.Omega.{arith}
 use lib.Dec.{T, ltb, ltb→lt, nltb→le, eqb→eq}
-use lib.ListN.{length, getD, getElem?}
+use lib.ListN.{length}
 use lib.Seq.{ext-getD}
 use Rattle.model.specs.Searches.{all, upTo}
 use Rattle.model.specs.Plan.{Plan, threads}
 use Rattle.model.specs.Records.{Tick, Record, call, allowed}
 use Rattle.model.proofs.Tests.{split, and-left, and-right, and-both, equal?}
 use Rattle.model.proofs.Searches.{all-from, all-at, in-upTo}
-use Rattle.plan.specs.Bytes.{byte}
-use Rattle.model.proofs.Loops.{listed, length-listed}
-use Rattle.dump.specs.Layout.{recordCount, kindAt, operandAt, recordOf, decode, kindOf, operandOf, encode}
+use Rattle.plan.specs.Words.{byte}
+use Rattle.model.proofs.Loops.{begin, listed, length-listed}
+use Rattle.dump.specs.Layout.{recordCount, kindAt, operandAt, recordAt, decode, part, kindOf, operandOf, encode}
 use Rattle.dump.specs.Questions.{operandFits, refusal}
 use Rattle.dump.proofs.Words.{Stands, word-stands}
 use Rattle.dump.proofs.Codec.{isCallRecord, kind-back, call-back, fits-kind, operand-back, allowed-back}
 use Rattle.dump.proofs.Answers.{Accepted, accepted}
-use Rattle.dump.proofs.Encoded.{recordAt, entryAt, encode-length, count-stands, encode-kind, operand-stands}
-
--- the two ways to look up a place within a list
-at-place : {A : Type 0} (l : List A) (i : ℕ) (d : A) → i < length l → getElem? l i ≡ some (getD l i d)
-at-place [] i d h = absurd (omega arith)
-at-place (a ∷ l) zero d h = refl
-at-place (a ∷ l) (suc i) d h = at-place l i d (omega arith)
+use Rattle.dump.proofs.Encoded.{nth, encode-length, count-stands, encode-kind, operand-stands}
 
 -- a test passed by each of a list that is made of another
 all-made : {A B : Type 0} (f : B → Bool) (g : A → B) (l : List A) → T (all (λ a. f (g a)) l) → T (all f (map g l))
@@ -42,24 +36,25 @@ byte-below (b ∷ bytes) t (suc i) = byte-below bytes (and-right (ltb b 256) _ t
 
 module _ (bytes : List ℕ) where
   pub decode-length : length (decode bytes) ≡ recordCount bytes
-  decode-length = length-listed (entryAt bytes) (recordCount bytes)
+  decode-length = length-listed (recordAt bytes) (recordCount bytes)
 
-  entry-at : (i : ℕ) → i < recordCount bytes → recordAt (decode bytes) i ≡ entryAt bytes i
-  entry-at i h = listed (entryAt bytes) (recordCount bytes) i (call Tick) h
+  decode-nth : (i : ℕ) → i < recordCount bytes → nth (decode bytes) i ≡ recordAt bytes i
+  decode-nth i h = listed (recordAt bytes) (recordCount bytes) i (call Tick) h
 
-  pub decode-at : (i : ℕ) → i < recordCount bytes → getElem? (decode bytes) i ≡ some (recordOf (kindAt bytes i) (operandAt bytes i))
-  decode-at i h = at-place (decode bytes) i (call Tick) (omega (arith, decode-length)) ∙ ap {B = Option Record} some (entry-at i h)
+  -- the part from the first record on and before N is the whole
+  pub part-all : part bytes 0 (recordCount bytes) ≡ decode bytes
+  part-all = begin (map (recordAt bytes)) (recordCount bytes)
 
 -- the records are allowed, and those of a call list are calls
 
 pub decoded-allowed : (p : Plan) (callsOnly : Bool) (bytes : List ℕ) → refusal (threads p) (p .sections) callsOnly bytes ≡ none → T (all (allowed p) (decode bytes))
 decoded-allowed p callsOnly bytes e =
-    all-made (allowed p) (entryAt bytes) (upTo (recordCount bytes))
+    all-made (allowed p) (recordAt bytes) (upTo (recordCount bytes))
     (all-from _ _ (λ i. allowed-back p (kindAt bytes i) (operandAt bytes i)) (upTo (recordCount bytes)) (accepted (threads p) (p .sections) callsOnly bytes e .operands))
 
 pub decoded-calls : (p : Plan) (bytes : List ℕ) → refusal (threads p) (p .sections) true bytes ≡ none → T (all isCallRecord (decode bytes))
 decoded-calls p bytes e =
-    all-made isCallRecord (entryAt bytes) (upTo (recordCount bytes))
+    all-made isCallRecord (recordAt bytes) (upTo (recordCount bytes))
     (all-from _ _ (λ i. call-back (kindAt bytes i) (operandAt bytes i)) (upTo (recordCount bytes)) (accepted (threads p) (p .sections) true bytes e .kinds))
 
 -- lists of bytes with N records are the same if they have the same N, kinds and operands
@@ -119,12 +114,12 @@ encode-decode threads sections callsOnly bytes t e =
 
     kinds : (i : ℕ) → i < n → byte (encode rs) (2 + i) ≡ byte bytes (2 + i)
     kinds i h =
-        encode-kind rs i (within i h) ∙ ap kindOf (entry-at bytes i h)
+        encode-kind rs i (within i h) ∙ ap kindOf (decode-nth bytes i h)
         ∙ kind-back (kindAt bytes i) (operandAt bytes i) (fits-kind threads sections (kindAt bytes i) (operandAt bytes i) (fits i h))
 
     operand : (i : ℕ) → i < n → Stands (encode rs) (2 + n + 2 * i) (operandAt bytes i)
     operand i h =
         subst (λ m. Stands (encode rs) (2 + m + 2 * i) (operandAt bytes i)) (decode-length bytes)
         (subst (λ m. Stands (encode rs) (2 + length rs + 2 * i) m)
-        (ap operandOf (entry-at bytes i h) ∙ operand-back threads sections (kindAt bytes i) (operandAt bytes i) (fits i h))
+        (ap operandOf (decode-nth bytes i h) ∙ operand-back threads sections (kindAt bytes i) (operandAt bytes i) (fits i h))
         (operand-stands rs i (within i h)))

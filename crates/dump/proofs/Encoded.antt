@@ -14,9 +14,9 @@ use Rattle.model.specs.Records.{Tick, Record, call, allowed}
 use Rattle.model.specs.Rules.{Question, firstNo}
 use Rattle.model.proofs.Tests.{is-true, and-left, and-right, and-both, eq-test}
 use Rattle.model.proofs.Searches.{all-from, all-append, upTo-at, all-in}
-use Rattle.plan.specs.Bytes.{byte, word}
+use Rattle.plan.specs.Words.{byte, word}
 use Rattle.model.proofs.Loops.{listed, length-listed}
-use Rattle.dump.specs.Layout.{recordCount, kindAt, operandAt, recordOf, decode, kindOf, operandOf, twoBytes, operands, encode}
+use Rattle.dump.specs.Layout.{recordCount, kindAt, operandAt, recordOf, recordAt, decode, kindOf, operandOf, twoBytes, operands, encode}
 use Rattle.dump.specs.Questions.{mostRecords, kindAllowed, operandFits, hasCount, hasLength, hasKinds, hasOperands, questions, refusal}
 use Rattle.dump.proofs.Words.{two-are-bytes, Stands, stands-word}
 use Rattle.dump.proofs.Codec.{isCallRecord, kind-byte, fits-kind, record-back, operand-fits, operand-word, call-kind}
@@ -35,18 +35,14 @@ module _ {A : Type 0} where
   made-at f (a ∷ l) (suc i) d e h = made-at f l i d e (omega arith)
 
 -- record i; past the end, where no law below looks, a Tick
-abbrev pub recordAt : List Record → ℕ → Record
-recordAt rs i = getD rs i (call Tick)
-
--- what is read as record i
-abbrev pub entryAt : List ℕ → ℕ → Record
-entryAt bytes i = recordOf (kindAt bytes i) (operandAt bytes i)
+abbrev pub nth : List Record → ℕ → Record
+nth rs i = getD rs i (call Tick)
 
 operands-length : (rs : List Record) → length (operands rs) ≡ 2 * length rs
 operands-length [] = refl
 operands-length (r ∷ rs) = omega (arith, operands-length rs)
 
-operands-at : (rs : List Record) (i : ℕ) → i < length rs → Stands (operands rs) (2 * i) (operandOf (recordAt rs i))
+operands-at : (rs : List Record) (i : ℕ) → i < length rs → Stands (operands rs) (2 * i) (operandOf (nth rs i))
 operands-at [] i h = absurd (omega arith)
 operands-at (r ∷ rs) zero h = record { low = refl; high = refl }
 operands-at (r ∷ rs) (suc i) h =
@@ -79,11 +75,11 @@ module _ (rs : List Record) where
       ap (λ k. byte (encode rs) k) f ∙ behind (length (map kindOf rs) + i) ∙ getD-append-add (map kindOf rs) (operands rs) i 0
 
   module _ (i : ℕ) (h : i < length rs) where
-    pub encode-kind : kindAt (encode rs) i ≡ kindOf (recordAt rs i)
+    pub encode-kind : kindAt (encode rs) i ≡ kindOf (nth rs i)
     encode-kind =
         behind i ∙ List·getD-append (map kindOf rs) (operands rs) 0 i (omega (arith, length-map rs kindOf)) ∙ made-at kindOf rs i (call Tick) 0 h
 
-    pub operand-stands : Stands (encode rs) (2 + length rs + 2 * i) (operandOf (recordAt rs i))
+    pub operand-stands : Stands (encode rs) (2 + length rs + 2 * i) (operandOf (nth rs i))
     operand-stands =
         let s = operands-at rs i h in
         record {
@@ -91,23 +87,23 @@ module _ (rs : List Record) where
           high = further (2 * i + 1) (2 + length rs + 2 * i + 1) (omega arith) ∙ s .high;
         }
 
-    pub encode-operand : operandAt (encode rs) i ≡ operandOf (recordAt rs i)
+    pub encode-operand : operandAt (encode rs) i ≡ operandOf (nth rs i)
     encode-operand = ap (λ n. word (encode rs) (2 + n + 2 * i)) encode-count ∙ stands-word operand-stands
 
 -- the records are read back
 pub decode-encode : (p : Plan) → threads p ≤ 65535 → p .sections ≤ 65536 → (rs : List Record) → length rs ≤ 65535 → T (all (allowed p) rs) → decode (encode rs) ≡ rs
 decode-encode p h g rs n t =
     ext-getD (call Tick) (decode (encode rs)) rs (size ∙ encode-count rs)
-    (λ i k. let l : i < recordCount (encode rs) = omega (arith, size) in listed (entryAt (encode rs)) (recordCount (encode rs)) i (call Tick) l ∙ same i (omega (arith, encode-count rs)))
+    (λ i k. let l : i < recordCount (encode rs) = omega (arith, size) in listed (recordAt (encode rs)) (recordCount (encode rs)) i (call Tick) l ∙ same i (omega (arith, encode-count rs)))
   where
     size : length (decode (encode rs)) ≡ recordCount (encode rs)
-    size = length-listed (entryAt (encode rs)) (recordCount (encode rs))
+    size = length-listed (recordAt (encode rs)) (recordCount (encode rs))
 
-    same : (i : ℕ) → i < length rs → entryAt (encode rs) i ≡ recordAt rs i
+    same : (i : ℕ) → i < length rs → recordAt (encode rs) i ≡ nth rs i
     same i k =
         ap (λ (x : ℕ). recordOf x (operandAt (encode rs) i)) (encode-kind rs i k)
-        ∙ ap (λ (x : ℕ). recordOf (kindOf (recordAt rs i)) x) (encode-operand rs i k)
-        ∙ record-back p h (recordAt rs i) (passes-at (allowed p) rs t (call Tick) i k)
+        ∙ ap (λ (x : ℕ). recordOf (kindOf (nth rs i)) x) (encode-operand rs i k)
+        ∙ record-back p h (nth rs i) (passes-at (allowed p) rs t (call Tick) i k)
 
 -- where every answer is Yes, there is no first No
 no-No : (qs : List Question) → T (all (λ q. q .answer) qs) → firstNo qs ≡ none
@@ -122,7 +118,7 @@ each-entry f rs t = all-in _ (upTo (recordCount (encode rs))) (λ i m. at i (ome
     at : (i : ℕ) → i < length rs → T (f (kindAt (encode rs) i) (operandAt (encode rs) i))
     at i h =
         subst (λ x. T (f x (operandAt (encode rs) i))) (sym (encode-kind rs i h))
-        (subst (λ x. T (f (kindOf (recordAt rs i)) x)) (sym (encode-operand rs i h)) (passes-at (λ r. f (kindOf r) (operandOf r)) rs t (call Tick) i h))
+        (subst (λ x. T (f (kindOf (nth rs i)) x)) (sym (encode-operand rs i h)) (passes-at (λ r. f (kindOf r) (operandOf r)) rs t (call Tick) i h))
 
 -- every answer is Yes, if every kind is allowed
 answers : (p : Plan) (callsOnly : Bool) (rs : List Record) → length rs ≤ mostRecords → T (all (allowed p) rs) → T (all (λ r. kindAllowed callsOnly (kindOf r)) rs)

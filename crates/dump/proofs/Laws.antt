@@ -12,18 +12,20 @@ use Rattle.plan.proofs.Laws.{zero-none}
 use Rattle.dump.specs.Layout.{recordCount, kindAt, operandAt}
 use Rattle.dump.specs.Questions.{kindAllowed, operandFits, hasKinds, hasOperands, questions, refusal, Whole}
 use Rattle.dump.proofs.Answers as answers
+-- a question that refuses a plan or what is behind it, by the number answered; which one refuses bytes longer than any N allows; none is above 8
+pub use Rattle.dump.proofs.Refusals.{Refused, by-plan, by-list, read-refusal, refused-plan, refused-list, tooLong, too-long, refusal-within}
 -- numbers in two bytes
 pub use Rattle.dump.proofs.Words.{Stands}
 -- one record, its kind and its operand, each way and back
 pub use Rattle.dump.proofs.Codec.{allowed-back, fits-kind, isCallRecord, kind-back, operand-back, operand-fits, record-back}
--- which record of the machine a kind and an operand are read as
-pub use Rattle.dump.proofs.Readings.{report-reads, call-reads}
+-- which record of the machine a kind and an operand name
+pub use Rattle.dump.proofs.Readings.{names}
 -- an operand that fits still fits with more threads and sections
 pub use Rattle.dump.proofs.Wider.{wider}
 -- records written as bytes
-pub use Rattle.dump.proofs.Encoded.{count-stands, decode-encode, encode-kind, encode-length, encode-passes, encode-passes-calls, entryAt, operand-stands, recordAt}
+pub use Rattle.dump.proofs.Encoded.{count-stands, decode-encode, encode-kind, encode-length, encode-passes, encode-passes-calls, nth, operand-stands}
 -- bytes read as records; encoding and decoding are inverse
-pub use Rattle.dump.proofs.Decoded.{decode-length, decoded-allowed, decoded-calls, encode-decode}
+pub use Rattle.dump.proofs.Decoded.{decode-length, decoded-allowed, decoded-calls, encode-decode, part-all}
 
 module _ (threads sections : ℕ) (callsOnly : Bool) (bytes : List ℕ) where
   -- `refusal` answers 0 only where nothing refuses the bytes

@@ -1,7 +1,9 @@
 -- What holds of the layout. Open to other crates is Laws, which lists what they may cite; the rest is this crate's own.
 mod Ranges
-mod Limits
+mod Operands
+mod Asking
 mod Answers
+mod Refusals
 mod Words
 mod Codec
 mod Readings

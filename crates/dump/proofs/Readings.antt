@@ -1,16 +1,17 @@
 -- Which record of the machine a kind and an operand are read as: a report for kinds from 16 on, a call below.
-use mathlib.Core.Path.{_≡_, refl, ap, subst}
+use mathlib.Core.Path.{_≡_, refl, ap, sym, subst}
 use mathlib.Core.Logic.{_⊎_, inl, inr}
 use mathlib.Core.Bool.{Bool, true, false, not, _||_}
 use Prim.Native.Nat.{ℕ, _%_, _≤_, _<_}
 use native.Mathlib.Omega.{arith}
 use native.Mathlib.Nat.{mod-eq-of-lt}
 use borrow.Author.Tests.{ne-eqb}
-use lib.Dec.{T, eqb, ltb, eqb→eq, ltb→lt}
+use lib.Dec.{T, eqb, ltb, eqb→eq, ltb→lt, nltb→le}
 use Rattle.model.specs.Records as model
 use Rattle.model.proofs.Tests.{split, is-false}
 use Rattle.machine.specs.Lists.{threadOf as machine-thread}
-use Rattle.machine.specs.declared.rules.Record.the-variants.{Report}
+use Rattle.machine.specs.Records.{Named}
+use Rattle.machine.specs.declared.record.Record.the-variants.{Report}
 use Rattle.dump.specs.Layout.{recordOf, nobody, threadOf}
 use Rattle.dump.specs.Questions.{isCall, kindAllowed, operandFits}
 use Rattle.dump.specs.Reading.{Reads}
@@ -58,7 +59,7 @@ module _ (n : ℕ) where
 
 module _ (k n : ℕ) (t : T (operandFits 16 16 k n)) where
   -- a kind from 16 on is a report's
-  pub report-reads : 16 ≤ k → Reads (Report (record { kind = k; who = n % 256 })) k n
+  report-reads : 16 ≤ k → Reads (Report (record { kind = k; who = n % 256 })) k n
   report-reads h = reports n k (fits-kind 16 16 k n t) (go (split (isCall k))) t
     where
       go : T (isCall k) ⊎ T (not (isCall k)) → isCall k ≡ false
@@ -66,7 +67,7 @@ module _ (k n : ℕ) (t : T (operandFits 16 16 k n)) where
       go (inr c) = is-false (isCall k) c
 
   -- one below is a call's
-  pub call-reads : k < 16 → (c : model.Call) × (recordOf k n ≡ model.call c)
+  call-reads : k < 16 → (c : model.Call) × (recordOf k n ≡ model.call c)
   call-reads h =
       each-kind (λ j. j < 16 → (c : model.Call) × (recordOf j n ≡ model.call c))
       (λ i. (model.Create n, refl))
@@ -78,3 +79,11 @@ module _ (k n : ℕ) (t : T (operandFits 16 16 k n)) where
       (λ i. (model.Tick, refl))
       (λ i. absurd (omega arith)) (λ i. absurd (omega arith)) (λ i. absurd (omega arith)) (λ i. absurd (omega arith)) (λ i. absurd (omega arith))
       k (fits-kind 16 16 k n t) h
+
+  -- so the low byte of the operand is the thread that a report names
+  pub names : Named k (n % 256) (recordOf k n)
+  names = go (split (ltb k 16))
+    where
+      go : T (ltb k 16) ⊎ T (not (ltb k 16)) → Named k (n % 256) (recordOf k n)
+      go (inl b) = let h = ltb→lt k 16 b in let c = call-reads h in inl (h, c .0, c .1)
+      go (inr b) = let r = report-reads (nltb→le k 16 b) in inr (r .kind', sym (r .same))

@@ -6,7 +6,7 @@ use native.Mathlib.Omega.{arith}
 use lib.Dec.{T, ltb, lt→ltb}
 use Rattle.model.specs.Searches.{all}
 use Rattle.model.proofs.Tests.{and-both}
-use Rattle.plan.specs.Bytes.{byte, word}
+use Rattle.plan.specs.Words.{byte, word}
 use Rattle.dump.specs.Layout.{twoBytes}
 
 -- from a number to two bytes, and back: what stands behind them does not matter

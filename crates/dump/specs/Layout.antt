@@ -2,12 +2,12 @@
 use mathlib.Core.Bool.{cond}
 use mathlib.Core.List.{List, [], _∷_, _++_, map}
 use mathlib.Core.Option.{Option, none, some}
-use Prim.Native.Nat.{ℕ, _+_, _*_, _/_, _%_}
+use Prim.Native.Nat.{ℕ, _+_, _*_, _-_, _/_, _%_}
 use lib.Dec.{eqb}
 use lib.ListN.{length}
-use Rattle.model.specs.Searches.{upTo}
+use Rattle.model.specs.Searches.{countFrom, upTo}
 use Rattle.model.specs.Records.{Create, Delay, Relinquish, End, Take, Give, Tick, Ready, Switch, Won, Lost, Yield, Call, Record, call, report, callKind, reportKind, named}
-use Rattle.plan.specs.Bytes.{byte, word}
+use Rattle.plan.specs.Words.{byte, word}
 
 -- N in two bytes, low byte first
 abbrev pub recordCount : List ℕ → ℕ
@@ -43,9 +43,17 @@ recordOf k n =
     (cond (eqb k 18) (report (Won n))
     (cond (eqb k 19) (report (Lost n)) (report (Yield n))))))))))))
 
+-- what is read as record i
+abbrev pub recordAt : List ℕ → (i : ℕ) → Record
+recordAt bytes i = recordOf (kindAt bytes i) (operandAt bytes i)
+
 -- the records of a dump, in order
 abbrev pub decode : List ℕ → List Record
-decode bytes = map (λ i. recordOf (kindAt bytes i) (operandAt bytes i)) (upTo (recordCount bytes))
+decode bytes = map (recordAt bytes) (upTo (recordCount bytes))
+
+-- the records from one number on and before another
+abbrev pub part : List ℕ → (from to : ℕ) → List Record
+part bytes from to = map (recordAt bytes) (countFrom from (to - from))
 
 -- and back: the kind and the operand of a record
 

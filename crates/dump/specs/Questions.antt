@@ -39,11 +39,6 @@ reportFits threads k n = ltb n threads || (eqb k 17 && eqb n nobody)
 abbrev pub operandFits : (threads sections kind operand : ℕ) → Bool
 operandFits threads sections k n = cond (isCall k) (callFits threads sections k n) (cond (isReport k) (reportFits threads k n) false)
 
--- An operand below its kind's limit is allowed, but for 0 of Delay: law under-limit of proofs/Limits.antt. T for Create and reports, S for
--- Take and Give, 65535 and below for Delay, 0 alone for Relinquish, End, Tick, and none for a number that is no kind.
-abbrev pub limit : (threads sections kind : ℕ) → ℕ
-limit threads sections k = cond (eqb k 1) threads (cond (eqb k 2) 65536 (cond (between 5 6 k) sections (cond (isCall k) 1 (cond (isReport k) threads 0))))
-
 -- 5: Has the dump or list 2 bytes or more, and N at most 20,000?
 abbrev pub hasCount : List ℕ → Bool
 hasCount bytes = leb 2 (length bytes) && leb (recordCount bytes) mostRecords

@@ -4,9 +4,7 @@ ghost use Prim.Native.Nat.{_≤_, _<_};
 ghost use lib.ListN.{length};
 ghost use Rattle.dump.specs.Layout.{recordCount, kindAt, operandAt};
 ghost use Rattle.dump.specs.Questions.{Whole};
-use crate::place::place_at;
-use crate::place::read;
-use plan::bytes::word_at;
+use plan::words::word_at;
 
 // A record's two numbers.
 pub struct Entry {
@@ -36,12 +34,4 @@ pub fn operand_at(bytes: &[u8], n: usize, i: usize) -> u16
     ensures { λ r. ⌜ r ≡ operandAt (now (bytes .entry)) i ⌝ }
 {
     word_at(bytes, 2 + n + 2 * i)
-}
-
-// Record i, where there are n, read through a reading place, which finds N by itself.
-pub fn entry_at(bytes: &[u8], n: usize, i: usize) -> Entry
-    requires { ⌜ Whole (now bytes) × (n ≡ recordCount (now bytes)) × (i < n) ⌝ }
-    ensures { λ r. ⌜ (r .kind ≡ kindAt (now (bytes .entry)) i) × (r .operand ≡ operandAt (now (bytes .entry)) i) ⌝ }
-{
-    read(place_at(bytes, i))
 }

@@ -1,8 +1,6 @@
 // A reading place in a dump or call list: thin functions over plain ones.
 ghost use mathlib.Core.Path.{_≡_};
-ghost use Prim.Native.Nat.{_+_, _≤_, _<_};
-ghost use lib.Dec.{leb};
-ghost use lib.ListN.{length};
+ghost use Prim.Native.Nat.{_<_};
 ghost use Rattle.dump.specs.Layout.{recordCount, kindAt, operandAt};
 ghost use Rattle.dump.specs.Questions.{Whole};
 use crate::layout::Entry;
@@ -28,14 +26,6 @@ fn numbers_at(bytes: &[u8], i: usize) -> Entry
     }
 }
 
-// Whether i is N or beyond.
-fn is_beyond(bytes: &[u8], i: usize) -> bool
-    requires { ⌜ 2 ≤ length (now bytes) ⌝ }
-    ensures { λ r. ⌜ r ≡ leb (recordCount (now (bytes .entry))) i ⌝ }
-{
-    record_count(bytes) <= i
-}
-
 // The place where a record of this number is next.
 pub fn place_at<'a>(bytes: &'a [u8], number: usize) -> Place<'a>
     ensures { λ r. ⌜ (r .bytes ≡ bytes .entry) × (r .number ≡ number) ⌝ }
@@ -51,21 +41,10 @@ pub fn read<'a>(place: Place<'a>) -> Entry
     numbers_at(place.bytes, place.number)
 }
 
-// The place behind the next record.
-pub fn moved_on<'a>(place: Place<'a>) -> Place<'a>
-    requires { ⌜ Whole (now (place .bytes)) × (place .number < recordCount (now (place .bytes))) ⌝ }
-    ensures { λ r. ⌜ (r .bytes ≡ place .entry .bytes) × (r .number ≡ place .entry .number + 1) ⌝ }
+// Record i, read through a reading place, which finds N by itself.
+pub fn entry_at(bytes: &[u8], i: usize) -> Entry
+    requires { ⌜ Whole (now bytes) × (i < recordCount (now bytes)) ⌝ }
+    ensures { λ r. ⌜ (r .kind ≡ kindAt (now (bytes .entry)) i) × (r .operand ≡ operandAt (now (bytes .entry)) i) ⌝ }
 {
-    Place {
-        bytes: place.bytes,
-        number: place.number + 1,
-    }
-}
-
-// Whether no record is next.
-pub fn at_end<'a>(place: Place<'a>) -> bool
-    requires { ⌜ 2 ≤ length (now (place .bytes)) ⌝ }
-    ensures { λ r. ⌜ r ≡ leb (recordCount (now (place .entry .bytes))) (place .entry .number) ⌝ }
-{
-    is_beyond(place.bytes, place.number)
+    read(place_at(bytes, i))
 }

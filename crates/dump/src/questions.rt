@@ -1,11 +1,10 @@
 // Questions 5 to 8.
 ghost use mathlib.Core.Path.{_≡_};
-ghost use mathlib.Core.List.{map};
 ghost use Prim.Native.Nat.{_≤_};
 ghost use lib.ListN.{length};
-ghost use Rattle.model.specs.Searches.{upTo};
 ghost use Rattle.plan.specs.Bytes.{number};
-ghost use Rattle.dump.specs.Questions.{kindAllowed, callFits, reportFits, operandFits, limit, hasCount, hasLength, hasKinds, hasOperands, refusal, Whole};
+ghost use Rattle.dump.specs.Questions.{kindAllowed, callFits, reportFits, operandFits, hasCount, hasLength, hasKinds, hasOperands, refusal, Whole};
+ghost use Rattle.dump.specs.Operands.{below, admits, Exact, Tabled};
 use crate::layout::kind_at;
 use crate::layout::operand_at;
 use crate::layout::record_count;
@@ -24,64 +23,94 @@ pub fn kind_allowed(list: bool, kind: u8) -> bool
     }
 }
 
+// What an operand may be: from low on and below end, and 65535 where nobody may be named.
+pub struct Bounds {
+    pub end: u32,
+    pub low: u16,
+    pub nobody: bool,
+}
+
+impl Bounds {
+    // The operands below a count: two bytes hold none above 65535.
+    fn below(count: usize) -> Bounds
+        ensures { λ r. ⌜ r ≡ below count ⌝ }
+    {
+        let end = if count < 65536 { count as u32 } else { 65536 };
+        Bounds {
+            end,
+            low: 0,
+            nobody: false,
+        }
+    }
+
+    // Whether an operand is one of them. The end is asked first: nearly every operand is below it, so that the branch is guessed right.
+    fn admits(self, operand: u16) -> bool
+        ensures { λ r. ⌜ r ≡ admits self operand ⌝ }
+    {
+        let n = operand as u32;
+        if n < self.end {
+            return self.low <= operand;
+        }
+        self.nobody && operand == 65535
+    }
+}
+
 // The operand rule of a call.
-fn call_fits(threads: usize, sections: usize, kind: u8, operand: u16) -> bool
-    ensures { λ r. ⌜ r ≡ callFits threads sections kind operand ⌝ }
+fn call_bounds(threads: usize, sections: usize, kind: u8) -> Bounds
+    ensures { λ r. ⌜ Exact r (callFits threads sections kind) ⌝ }
 {
-    let n = operand as usize;
     match kind {
-        1 => n < threads,
-        2 => 1 <= n,
-        5..=6 => n < sections,
-        _ => n == 0,
+        1 => Bounds::below(threads),
+        2 => Bounds {
+            end: 65536,
+            low: 1,
+            nobody: false,
+        },
+        5..=6 => Bounds::below(sections),
+        _ => Bounds::below(1),
     }
 }
 
 // The operand rule of a report.
-fn report_fits(threads: usize, kind: u8, operand: u16) -> bool
-    ensures { λ r. ⌜ r ≡ reportFits threads kind operand ⌝ }
+fn report_bounds(threads: usize, kind: u8) -> Bounds
+    ensures { λ r. ⌜ Exact r (reportFits threads kind) ⌝ }
 {
-    (operand as usize) < threads || (kind == 17 && operand == 65535)
+    let mut named = Bounds::below(threads);
+    named.nobody = kind == 17;
+    named
 }
 
 // The operand rule of a record, by its kind.
+fn bounds_of(threads: usize, sections: usize, kind: u8) -> Bounds
+    ensures { λ r. ⌜ Exact r (operandFits threads sections kind) ⌝ }
+{
+    match kind {
+        1..=7 => call_bounds(threads, sections, kind),
+        16..=20 => report_bounds(threads, kind),
+        _ => Bounds::below(0),
+    }
+}
+
+// Whether an operand is allowed for its kind.
 pub fn operand_fits(threads: usize, sections: usize, kind: u8, operand: u16) -> bool
     ensures { λ r. ⌜ r ≡ operandFits threads sections kind operand ⌝ }
 {
-    match kind {
-        1..=7 => call_fits(threads, sections, kind, operand),
-        16..=20 => report_fits(threads, kind, operand),
-        _ => false,
-    }
+    bounds_of(threads, sections, kind).admits(operand)
 }
 
-// The operands of a kind below this number are allowed, but for 0 of Delay.
-fn limit(threads: usize, sections: usize, kind: u8) -> usize
-    ensures { λ r. ⌜ r ≡ limit threads sections kind ⌝ }
+// The bounds of the kinds below 32, in their order, to be made once for all records.
+fn bounds_table(threads: usize, sections: usize) -> [Bounds; 32]
+    ensures { λ r. ⌜ Tabled threads sections 32 r ⌝ }
 {
-    match kind {
-        1 => threads,
-        2 => 65536,
-        3..=4 => 1,
-        5..=6 => sections,
-        7 => 1,
-        16..=20 => threads,
-        _ => 0,
-    }
-}
-
-// The limits of the kinds below 32, in their order, to be made once for all records.
-fn limits(threads: usize, sections: usize) -> [usize; 32]
-    ensures { λ r. ⌜ r ≡ map (limit threads sections) (upTo 32) ⌝ }
-{
-    let mut all = [0usize; 32];
+    let none = Bounds::below(0);
+    let mut table = [none; 32];
     let mut k: usize = 0;
     while k < 32 {
-        let n = limit(threads, sections, k as u8);
-        all[k] = n;
+        let b = bounds_of(threads, sections, k as u8);
+        table[k] = b;
         k += 1;
     }
-    all
+    table
 }
 
 // 5: Has it 2 bytes or more, and N at most 20,000?
@@ -119,25 +148,22 @@ fn has_kinds(list: bool, bytes: &[u8]) -> bool
     true
 }
 
-// 8: Is every operand allowed for its kind? Only an operand that its kind's limit does not admit is asked by its kind: the kinds
-// of a dump follow no pattern, and a branch on them is often guessed wrong.
+// 8: Is every operand allowed for its kind? The table is asked, and not the kind: the kinds of a dump follow no pattern, and a branch on
+// them is often guessed wrong.
 fn has_operands(threads: usize, sections: usize, bytes: &[u8]) -> bool
     requires { ⌜ Whole (now bytes) ⌝ }
     ensures { λ r. ⌜ r ≡ hasOperands threads sections (now (bytes .entry)) ⌝ }
 {
     let n = record_count(bytes);
-    let all = limits(threads, sections);
+    let table = bounds_table(threads, sections);
     let mut i: usize = 0;
     while i < n {
-        let kind = kind_at(bytes, i);
-        let operand = operand_at(bytes, n, i);
-        let k = kind as usize;
-        let x = operand as usize;
-        // 256 * x + k is 2 for 0 of Delay alone: one comparison, and no branch on the kind.
-        if 32 <= k || all[k] <= x || 256 * x + k == 2 {
-            if !operand_fits(threads, sections, kind, operand) {
-                return false;
-            }
+        let k = kind_at(bytes, i) as usize;
+        if 32 <= k {
+            return false;
+        }
+        if !table[k].admits(operand_at(bytes, n, i)) {
+            return false;
         }
         i += 1;
     }

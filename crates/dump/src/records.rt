@@ -3,8 +3,8 @@ ghost use lib.Dec.{T};
 ghost use Rattle.dump.specs.Questions.{operandFits};
 ghost use Rattle.dump.specs.Reading.{Reads};
 use crate::layout::Entry;
+use machine::record::Record;
 use machine::reports::Report;
-use machine::rules::Record;
 use machine::time::Wait;
 
 // The record of a kind and an operand that questions 7 and 8 let pass. Nobody, 65535, is the machine's 255.

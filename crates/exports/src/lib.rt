@@ -6,6 +6,7 @@ ghost use Rattle.monitor.specs.Answers.{check};
 ghost use Rattle.kernel.specs.Answers.{answer, output};
 ghost use Rattle.exports.specs.Numbers.{verdictNumber, verdictAt, verdictDue, writtenNumber, writtenRecords};
 ghost use Rattle.exports.specs.Contracts.{Tells, Begins, Steps};
+ghost use Rattle.exports.specs.Abi.{abi};
 use kernel::bench::Written;
 use kernel::bench::bench;
 use live::lent;
@@ -15,6 +16,15 @@ use live::live::Watch;
 use live::live::begin;
 use monitor::check::Verdict;
 use monitor::check::check;
+
+// The number of this interface, which the header and the Rust wrapper name too: a caller with another one has another layout of the watch
+// state or other signatures. Rules out a number that rises in the library alone.
+#[no_mangle]
+pub extern "C" fn beltcairn_abi() -> u32
+    ensures { λ r. ⌜ r ≡ abi ⌝ }
+{
+    1
+}
 
 // The whole check of a plan and a dump. 0: clean, *at is the number of records and *due that of reports due. 1 to 8: that question refuses.
 // 21 to 30: that rule is broken, *at is the record, from 0. Rules out a breach told at record 0, and the reports due told as the records.

@@ -7,11 +7,9 @@ use Prim.Native.Nat.{ℕ, _≤_}
 use native.Mathlib.Omega.{arith}
 use borrow.Author.Tests.{le-leb}
 use lib.Dec.{T, eqb, leb, ltb, ltb→lt, nltb→le}
-use lib.ListN.{getD}
 use Rattle.model.specs.Searches.{all, upTo}
 use Rattle.model.specs.Formed.{lastWake, conditionInRange, times}
 use Rattle.model.proofs.Tests.{split, is-true, from-true, and-left, and-right, and-both}
-use Rattle.plan.specs.View.{inUse}
 use Rattle.model.proofs.Searches.{all-from}
 use Rattle.model.proofs.Loops.{all-of-more}
 use Rattle.lists.specs.Words.{nibble}
@@ -19,7 +17,8 @@ use Rattle.lists.specs.Lists.{queued}
 use Rattle.lists.proofs.Laws.{queued-empty}
 use Rattle.machine.specs.declared.Machine.{Machine}
 use Rattle.machine.specs.declared.slots.Slots.{Slots}
-use Rattle.machine.specs.View.{conditionOf, conditionIn, conditionsOf}
+use Rattle.machine.specs.declared.time.Tick.{Tick}
+use Rattle.machine.specs.View.{conditionOf, wakeOf, conditionIn, conditionsOf}
 use Rattle.formed.specs.Contracts.{standsBy, Stood, Calm}
 use Rattle.machine.proofs.Laws.{by-state}
 
@@ -55,10 +54,10 @@ in-range sections s n w a b =
     by-state s n w (T (conditionInRange sections (conditionOf s n w))) (λ e. rw e tt) (λ e. rw e tt) (λ e. rw e b) (λ e. absurd (omega (arith, ltb→lt s 3 a)))
     (λ h. absurd (omega (arith, ltb→lt s 3 a)))
 
-pub calm-range : (slots : Slots) (wakes : List ℕ) (threads sections : ℕ) → threads ≤ 16 → Calm (slots .states) threads → all (λ n. leb n lastWake) (inUse 16 wakes) ≡ true
+pub calm-range : (slots : Slots) (wakes : List Tick) (threads sections : ℕ) → threads ≤ 16 → Calm (slots .states) threads → all (λ n. leb n lastWake) (map (wakeOf wakes) (upTo 16)) ≡ true
     → all (conditionInRange sections) (conditionsOf threads slots wakes) ≡ true
 calm-range slots wakes threads sections h c e =
-    let early : all (λ n. leb n lastWake) (inUse threads wakes) ≡ true = all-of-more (λ n. leb n lastWake) (λ t. getD wakes t 0) threads 16 h e in
+    let early : all (λ n. leb n lastWake) (map (wakeOf wakes) (upTo threads)) ≡ true = all-of-more (λ n. leb n lastWake) (wakeOf wakes) threads 16 h e in
     is-true (all (conditionInRange sections) (conditionsOf threads slots wakes))
-    (both-follow (λ t. ltb (nibble (slots .states) t) 3) (λ t. getD wakes t 0) (λ n. leb n lastWake) (conditionIn slots wakes) (conditionInRange sections) (upTo threads)
-    (λ t a b. in-range sections (nibble (slots .states) t) (nibble (slots .wants) t) (getD wakes t 0) a b) (from-true _ c) (from-true _ early))
+    (both-follow (λ t. ltb (nibble (slots .states) t) 3) (wakeOf wakes) (λ n. leb n lastWake) (conditionIn slots wakes) (conditionInRange sections) (upTo threads)
+    (λ t a b. in-range sections (nibble (slots .states) t) (nibble (slots .wants) t) (wakeOf wakes t) a b) (from-true _ c) (from-true _ early))

@@ -7,7 +7,6 @@ use Prim.Native.Nat.{ℕ, _+_, _≤_, _<_}
 use native.Mathlib.Omega.{arith}
 use borrow.Author.Tests.{le-leb, lt-leb, le-ltb, ne-eqb, not-true, not-false}
 use lib.Dec.{T, eqb, leb, ltb, leb→le, le→leb, T-not, not-T}
-use lib.ListN.{getD}
 use Rattle.model.specs.Searches.{all, upTo}
 use Rattle.model.specs.Plan.{threads, validPlan}
 use Rattle.model.specs.Records.{Report, isThread}
@@ -22,8 +21,7 @@ use Rattle.machine.specs.declared.Machine.{Machine}
 use Rattle.lists.specs.Words.{nibble}
 use Rattle.lists.specs.Lists.{queued, held}
 use Rattle.machine.specs.Lists.{threadOf}
-use Rattle.machine.specs.View.{conditionOf, conditionsOf, planOf, viewed, idle}
-use Rattle.machine.specs.Contracts.{Formed}
+use Rattle.machine.specs.View.{conditionOf, wakeOf, conditionsOf, planOf, viewed, idle}
 use Rattle.formed.specs.Contracts.{Counted, standsBy}
 use Rattle.formed.proofs.Ranges.{queued-by, waits-by}
 use Rattle.machine.proofs.Laws.{condition-at, counts-within}
@@ -158,9 +156,9 @@ module _ (m : Machine) where
             };
       }
 
-  counts-pass : Formed m → T counts'
+  counts-pass : T (formed (planOf m) (idle m)) → T counts'
   counts-pass f =
-      let l = counts-within f in
+      let l = counts-within m f in
       and-both (queueFits && waitsFit) holdsFit
       (and-both queueFits waitsFit (le→leb (m .queue .count) 16 (l .queue')) (le→leb (m .waits .count) 16 (l .waits')))
       (le→leb (m .holds .count) 16 (l .holds'))
@@ -186,7 +184,7 @@ module _ (m : Machine) where
   stand =
       all-agree slotStands threadStands (upTo (m .plan .threads))
       (λ t i.
-      stands-by (queued (m .queue)) (queued (m .waits)) (nibble (m .slots .states) t) (nibble (m .slots .wants) t) (getD (m .wakes) t 0) t
+      stands-by (queued (m .queue)) (queued (m .waits)) (nibble (m .slots .states) t) (nibble (m .slots .wants) t) (wakeOf (m .wakes) t) t
       ∙ ap (λ c. standsOnce (queued (m .queue)) (queued (m .waits)) c t) (sym (condition-at (m .plan .threads) (m .slots) (m .wakes) t (upTo-at (m .plan .threads) i))))
       ∙ ap (λ n. all threadStands (upTo n)) (sym (threads-view (m .plan)))
 
@@ -203,9 +201,9 @@ module _ (m : Machine) where
     questions = ap (λ b. plan' && numbers' && once' && b && due') stand
 
     -- a well-formed state is so with nothing due, too
-    formed-idle : T (formed (planOf m) (viewed m due)) → Formed m
+    formed-idle : T (formed (planOf m) (viewed m due)) → T (formed (planOf m) (idle m))
     unfolding formed
-    formed-idle t = record { passes = and-both others (dueInRange (planOf m) []) (and-left others due' t) (and-both few true (le→leb 0 (threads (planOf m) + 1) (omega arith)) tt) }
+    formed-idle t = and-both others (dueInRange (planOf m) []) (and-left others due' t) (and-both few true (le→leb 0 (threads (planOf m) + 1) (omega arith)) tt)
       where
         others : Bool
         others = plan' && numbers' && once' && allStandOnce (planOf m) (viewed m due)

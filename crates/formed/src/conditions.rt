@@ -3,22 +3,23 @@ ghost use mathlib.Core.Path.{_≡_};
 ghost use mathlib.Core.Bool.{true, cond};
 ghost use Prim.Native.Nat.{_≤_};
 ghost use lib.Dec.{eqb, leb};
-ghost use Rattle.model.specs.Searches.{all};
+ghost use mathlib.Core.List.{map};
+ghost use Rattle.model.specs.Searches.{all, upTo};
 ghost use Rattle.model.specs.Formed.{lastWake, conditionInRange};
-ghost use Rattle.plan.specs.View.{inUse};
-ghost use Rattle.machine.specs.View.{conditionOf, conditionsOf};
+ghost use Rattle.machine.specs.View.{conditionOf, wakeOf, conditionsOf};
 ghost use Rattle.formed.specs.Contracts.{Calm};
 use lists::nibbles::nibble_at;
 use machine::slots::Slots;
 use machine::time::LAST_WAKE;
+use machine::time::Tick;
 
 // Whether the number names a condition, and its tick number or section is in range.
-fn slot_in_range(state: u8, want: u8, wake: u32, sections: usize) -> bool
+fn slot_in_range(state: u8, want: u8, wake: Tick, sections: usize) -> bool
     requires { ⌜ sections ≤ 16 ⌝ }
-    ensures { λ r. ⌜ r ≡ conditionInRange sections (conditionOf state want wake) ⌝ }
+    ensures { λ r. ⌜ r ≡ conditionInRange sections (conditionOf state want (wake .0)) ⌝ }
 {
     if state == 2 {
-        wake <= LAST_WAKE
+        wake.0 <= LAST_WAKE.0
     } else if state == 3 {
         (want as usize) < sections
     } else {
@@ -27,7 +28,7 @@ fn slot_in_range(state: u8, want: u8, wake: u32, sections: usize) -> bool
 }
 
 // Whether each names a condition, and its tick number or section is in range.
-fn in_range(slots: Slots, wakes: [u32; 16], threads: usize, sections: usize) -> bool
+fn in_range(slots: Slots, wakes: [Tick; 16], threads: usize, sections: usize) -> bool
     requires { ⌜ (threads ≤ 16) × (sections ≤ 16) ⌝ }
     ensures { λ r. ⌜ r ≡ all (conditionInRange sections) (conditionsOf threads slots wakes) ⌝ }
 {
@@ -44,13 +45,14 @@ fn in_range(slots: Slots, wakes: [u32; 16], threads: usize, sections: usize) -> 
 }
 
 // Whether none of sixteen tick numbers is above the greatest that a sleeper waits for: asked at once, without an early end.
-fn in_time(wakes: [u32; 16]) -> bool
-    ensures { λ r. ⌜ r ≡ all (λ n. leb n lastWake) (inUse 16 wakes) ⌝ }
+fn in_time(wakes: [Tick; 16]) -> bool
+    ensures { λ r. ⌜ r ≡ all (λ n. leb n lastWake) (map (wakeOf wakes) (upTo 16)) ⌝ }
 {
     let mut pass = true;
     let mut t: usize = 0;
     while t < 16 {
-        if LAST_WAKE < wakes[t] {
+        let wake = wakes[t];
+        if LAST_WAKE.0 < wake.0 {
             pass = false;
         }
         t += 1;
@@ -61,7 +63,7 @@ fn in_time(wakes: [u32; 16]) -> bool
 // Whether each is in range, where `calm` says that no thread waits: then the tick numbers alone are left to ask, of all sixteen at once.
 pub(crate) fn fit(
     slots: Slots,
-    wakes: [u32; 16],
+    wakes: [Tick; 16],
     calm: bool,
     threads: usize,
     sections: usize,

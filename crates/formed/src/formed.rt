@@ -72,7 +72,7 @@ fn numbers_in_range(m: Machine) -> bool
 {
     let p = m.plan;
     let now = m.tick;
-    if LAST_TICK < now.0 {
+    if LAST_TICK.0 < now.0 {
         return false;
     }
     let who = m.reported;
@@ -97,7 +97,7 @@ fn numbers_in_range(m: Machine) -> bool
     h.in_range(p.threads, p.sections)
 }
 
-// Whether the lists are within their arrays.
+// Whether the lists are within their words.
 fn counted(m: Machine) -> bool
     ensures { λ r. ⌜ r ≡ leb (m .queue .count) 16 && leb (m .waits .count) 16 && leb (m .holds .count) 16 ⌝ }
 {

@@ -17,9 +17,9 @@ use Rattle.plan.specs.View as plans
 use Rattle.plan.specs.declared.Plan.{Plan}
 use Rattle.model.proofs.Loops.{listed}
 use Rattle.plan.proofs.Laws.{threads-view, valid-fits}
-use Rattle.dump.specs.Layout.{recordCount, kindAt, operandAt, decode, kindOf, operandOf}
+use Rattle.dump.specs.Layout.{recordCount, kindAt, operandAt, decode, kindOf, operandOf, recordAt}
 use Rattle.dump.specs.Questions.{mostRecords, operandFits, refusal, Whole}
-use Rattle.dump.proofs.Laws.{isCallRecord, kind-back, operand-back, fits-kind, allowed-back, entryAt, decode-length, decoded-calls}
+use Rattle.dump.proofs.Laws.{isCallRecord, kind-back, operand-back, fits-kind, allowed-back, decode-length, decoded-calls}
 use Rattle.dump.proofs.Laws as dumps
 use Rattle.kernel.specs.Contracts.{Passed}
 
@@ -62,10 +62,10 @@ module _ {p : Plan} {ceilings list : List ℕ} {n : ℕ} (passed : Passed p ceil
     below : k < recordCount list
     below = omega (arith, passed .count)
 
-    pub call-is : call (callAt list k) ≡ entryAt list k
+    pub call-is : call (callAt list k) ≡ recordAt list k
     call-is =
         sym (List·getD-map call (calls list) k Tick) ∙ ap (λ (l : List Record). getD l k (call Tick)) all-calls
-        ∙ listed (entryAt list) (recordCount list) k (call Tick) below
+        ∙ listed (recordAt list) (recordCount list) k (call Tick) below
 
     pub call-next : drop k (calls list) ≡ callAt list k ∷ drop (k + 1) (calls list)
     call-next = drop-cons (calls list) k Tick (omega (arith, calls-count)) ∙ ap (λ j. callAt list k ∷ drop j (calls list)) (sym (add-one k))
@@ -73,7 +73,7 @@ module _ {p : Plan} {ceilings list : List ℕ} {n : ℕ} (passed : Passed p ceil
     pub call-fits : T (operandFits (p .threads) (p .sections) (kindAt list k) (operandAt list k))
     call-fits = dumps.entry-passes (p .threads) (p .sections) true list (passed .passes) k below .1
 
-    pub call-allowed : T (allowed (plans.view p) (entryAt list k))
+    pub call-allowed : T (allowed (plans.view p) (recordAt list k))
     call-allowed =
         allowed-back (plans.view p) (kindAt list k) (operandAt list k)
         (subst (λ t. T (operandFits t (p .sections) (kindAt list k) (operandAt list k))) (sym (threads-view p)) call-fits)

@@ -24,17 +24,16 @@ use Rattle.plan.proofs.Laws.{threads-view}
 use Rattle.machine.specs.declared.state.State.{State}
 use Rattle.machine.specs.Lists.{numbered}
 use Rattle.machine.specs.View.{planOf, view}
-use Rattle.machine.specs.Steps.{Fresh, Answers}
+use Rattle.machine.specs.Contracts.{Fresh}
 use Rattle.machine.proofs.Laws.{stands-formed, ceilings-of}
-use Rattle.dump.specs.Layout.{kindAt, operandAt, recordOf}
+use Rattle.dump.specs.Layout.{kindAt, operandAt, recordAt}
 use Rattle.dump.specs.Questions.{operandFits}
-use Rattle.dump.proofs.Laws.{fits-kind, entryAt}
 use Rattle.walk.specs.declared.single.Stepped.{Stepped}
-use Rattle.walk.specs.Contracts.{Single}
+use Rattle.walk.specs.Contracts.{Single, Advances}
 use Rattle.kernel.specs.Answers.{isMade, recordsOf}
 use Rattle.kernel.specs.Contracts.{Passed, Settles, madeOf}
 use Rattle.kernel.proofs.Giving.{IsFormed}
-use Rattle.kernel.proofs.CallList.{calls, callAt, plan-fits, calls-few, calls-end, call-is, call-fits, call-next, call-allowed}
+use Rattle.kernel.proofs.CallList.{calls, callAt, plan-fits, list-whole, calls-few, calls-end, call-is, call-fits, call-next, call-allowed}
 
 -- records behind none, and behind others that are behind others
 
@@ -92,34 +91,25 @@ module _ {p : Plan} {ceilings list : List ℕ} {n : ℕ} (passed : Passed p ceil
 
   module _ (h : k < n) where
     -- record k is call k
-    is-call : entryAt list k ≡ call (callAt list k)
+    is-call : recordAt list k ≡ call (callAt list k)
     is-call = sym (call-is passed k h)
 
-    steps-over : Single s ceilings who (kindAt list k) (operandAt list k)
-    steps-over =
+    pub made-steps : Single s ceilings who list k
+    made-steps =
         record {
-          kind' = fits-kind _ _ (kindAt list k) (operandAt list k) (call-fits passed k h);
+          formed' = stands-formed s (carried (λ q. T (model.validPlan q)) (passed .valid)) (carried (λ q. Reached q (view s)) (m .reached)) (omega (arith, m .tick, calls-few passed));
+          ceilings' = ceilings-of (s .machine) p ceilings (m .plan') (passed .ceilings');
+          chosen' = carried (λ q. who ≡ numbered (chosen q (view s))) (m .chosen');
+          whole = list-whole passed;
+          within = omega (arith, h, passed .count);
           operand' = subst (λ (q : Plan). T (operandFits (q .threads) (q .sections) (kindAt list k) (operandAt list k))) (sym (m .plan')) (call-fits passed k h);
-          steps =
-              record {
-                formed = stands-formed s (carried (λ q. T (model.validPlan q)) (passed .valid)) (carried (λ q. Reached q (view s)) (m .reached)) (omega (arith, m .tick, calls-few passed));
-                ceilings' = ceilings-of (s .machine) p ceilings (m .plan') (passed .ceilings');
-                chosen' = carried (λ q. who ≡ numbered (chosen q (view s))) (m .chosen');
-                allowed = carried (λ q. T (allowed q (entryAt list k))) (call-allowed passed k h);
-                tick = λ z. omega (arith, m .tick, calls-few passed);
-              };
+          room = λ z. omega (arith, m .tick, calls-few passed);
         }
 
-    pub made-steps : {kind operand : ℕ} → (kind ≡ kindAt list k) × (operand ≡ operandAt list k) → Single s ceilings who kind operand
-    made-steps e = rw (e .0, e .1) steps-over
-
-    module _ {kind operand : ℕ} (numbers : (kind ≡ kindAt list k) × (operand ≡ operandAt list k)) (o : Stepped) (answers : Answers (o .state) (o .chosen) (o .rule) s (recordOf kind operand)) where
-      a : Answers (o .state) (o .chosen) (o .rule) s (entryAt list k)
-      a = rw (numbers .0, numbers .1) at answers
-
+    module _ (o : Stepped) (a : Advances (o .state) (o .chosen) (o .rule) s (recordAt list k)) where
       -- the model's step for the call, in the plan that came
-      as-call : (P : model.Plan → records.Record → Type 0) → P (planOf (s .machine)) (entryAt list k) → P (plans.view p) (call (callAt list k))
-      as-call P g = subst (λ (r : records.Record). P (plans.view p) r) is-call (subst (λ (q : Plan). P (plans.view q) (entryAt list k)) (m .plan') g)
+      as-call : (P : model.Plan → records.Record → Type 0) → P (planOf (s .machine)) (recordAt list k) → P (plans.view p) (call (callAt list k))
+      as-call P g = subst (λ (r : records.Record). P (plans.view p) r) is-call (subst (λ (q : Plan). P (plans.view q) (recordAt list k)) (m .plan') g)
 
       -- what is written from here on
       onwards : benchFrom (plans.view p) (view s) (drop k (calls list)) ≡ benchFrom (plans.view p) (view s) (callAt list k ∷ drop (k + 1) (calls list))

@@ -16,15 +16,14 @@ use Rattle.model.specs.Bench.{bench, callsOf}
 use Rattle.model.proofs.Tests.{and-left, and-right, and-both}
 use Rattle.model.proofs.Laws.{clean-count, bench-clean, clean-is-bench}
 use Rattle.plan.specs.Bytes as plans
-use Rattle.plan.specs.Bytes.{threadCount, sectionCount, baseAt, planOf}
-use Rattle.model.proofs.Loops.{length-listed}
-use Rattle.plan.proofs.Laws.{accepted, whole, refusal-none-valid}
+use Rattle.plan.specs.Bytes.{threadCount, sectionCount, planOf}
+use Rattle.plan.proofs.Laws.{accepted, whole, refusal-none-valid, threads-bytes}
 use Rattle.dump.specs.Layout.{decode, encode}
 use Rattle.dump.specs.Questions as dumps
 use Rattle.dump.specs.Questions.{mostRecords}
 use Rattle.dump.proofs.Laws.{isCallRecord, decode-encode, encode-passes, encode-passes-calls, decode-length, decoded-allowed, encode-decode}
 use Rattle.dump.proofs.Laws as dump-laws
-use Rattle.kernel.specs.Answers.{wrote, made, isMade, recordsOf, bytesFor, answer, inFront, output}
+use Rattle.kernel.specs.Answers.{wrote, made, isMade, recordsOf, bytesFor, answer, atFront, output}
 use Rattle.kernel.proofs.Answering.{Answers, all-pass}
 use Rattle.kernel.proofs.Wrote.{Wrote}
 
@@ -62,22 +61,19 @@ own-calls (k ∷ ks) = ap {B = List Call} (λ l. k ∷ l) (own-calls ks)
 
 -- the plan's counts, in its bytes and in the model's plan
 module _ (plan : List ℕ) where
-  plan-threads : threads (planOf plan) ≡ threadCount plan
-  plan-threads = length-listed (baseAt plan) (threadCount plan)
-
   module _ (callsOnly : Bool) (bytes : List ℕ) where
     of-plan : dumps.refusal (threadCount plan) (sectionCount plan) callsOnly bytes ≡ none → dumps.refusal (threads (planOf plan)) (sectionCount plan) callsOnly bytes ≡ none
-    of-plan e = subst (λ t. dumps.refusal t (sectionCount plan) callsOnly bytes ≡ none) (sym plan-threads) e
+    of-plan e = subst (λ t. dumps.refusal t (sectionCount plan) callsOnly bytes ≡ none) (sym (threads-bytes plan)) e
 
-    of-bytes : dumps.refusal (threads (planOf plan)) (sectionCount plan) callsOnly bytes ≡ none → dumps.refusal (threadCount plan) (sectionCount plan) callsOnly bytes ≡ none
-    of-bytes e = subst (λ t. dumps.refusal t (sectionCount plan) callsOnly bytes ≡ none) plan-threads e
+    pub of-bytes : dumps.refusal (threads (planOf plan)) (sectionCount plan) callsOnly bytes ≡ none → dumps.refusal (threadCount plan) (sectionCount plan) callsOnly bytes ≡ none
+    of-bytes e = subst (λ t. dumps.refusal t (sectionCount plan) callsOnly bytes ≡ none) (threads-bytes plan) e
 
   module _ (yes : plans.refusal plan ≡ none) where
     counts : plans.Whole plan
     counts = let a = accepted plan yes in whole plan (a .counts) (a .size)
 
     few-threads : threads (planOf plan) ≤ 65535
-    few-threads = omega (arith, plan-threads, counts .threads)
+    few-threads = omega (arith, threads-bytes plan, counts .threads)
 
     few-sections : sectionCount plan ≤ 65536
     few-sections = omega (arith, counts .sections)
@@ -143,7 +139,7 @@ module _ (plan dump out : List ℕ) (n : ℕ) (plan-yes : plans.refusal plan ≡
   same-records : recordsOf (made plan (callList dump)) ≡ decode dump
   same-records = ap recordsOf makes
 
-  answers : Answers plan (callList dump) out (wrote (length (recordsOf (made plan (callList dump))))) (inFront (recordsOf (made plan (callList dump))) out)
+  answers : Answers plan (callList dump) out (wrote (length (recordsOf (made plan (callList dump))))) (atFront (recordsOf (made plan (callList dump))) out)
   answers =
       all-pass plan (callList dump) out plan-yes list-yes (ap isMade makes) (omega (arith, ap length same-records, decode-length dump, whole-dump .count))
       (omega (arith, ap length same-records, decode-length dump, whole-dump .size))
@@ -154,5 +150,5 @@ module _ (plan dump out : List ℕ) (n : ℕ) (plan-yes : plans.refusal plan ≡
   pub dump-output : T (all (λ b. ltb b 256) dump) → take (length dump) (output plan (callList dump) out) ≡ dump
   dump-output t =
       let back : encode (decode dump) ≡ dump = encode-decode (threadCount plan) (sectionCount plan) false dump t dump-yes in
-      ap (take (length dump)) (sym (answers .1) ∙ ap (λ l. inFront l out) same-records)
+      ap (take (length dump)) (sym (answers .1) ∙ ap (λ l. atFront l out) same-records)
       ∙ take-at (encode (decode dump)) (drop (bytesFor (length (decode dump))) out) (length dump) (ap length back) ∙ back

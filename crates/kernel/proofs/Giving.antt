@@ -21,7 +21,7 @@ use Rattle.machine.specs.declared.reports.Report as reports
 use Rattle.machine.specs.Lists.{reportOf}
 use Rattle.machine.specs.View.{planOf, view}
 use Rattle.machine.proofs.Laws.{formed-facts}
-use Rattle.machine.specs.Steps.{Owes, FirstDue, Delivers}
+use Rattle.machine.specs.Contracts.{Owes, FirstDue, Delivers}
 use Rattle.kernel.specs.Contracts.{Settles}
 
 -- a thread reported is one of the plan's, also once a report is given that names one

@@ -18,6 +18,10 @@ use Rattle.dump.specs.Questions as dumps
 use Rattle.kernel.specs.Answers.{wrote, bytesFor, answer, output}
 use Rattle.kernel.proofs.Wrote.{wrote-all}
 use Rattle.kernel.proofs.Dumped.{dump-clean, dump-passes, dump-calls, dump-answer, dump-output}
+-- where one of questions 1 to 8 refuses plan and list its number is the answer, and the output stays as it is
+pub use Rattle.kernel.proofs.Answering.{refused-answer, refused-output}
+-- question 11 refuses nothing where there is room for the greatest number of records
+pub use Rattle.kernel.proofs.Room.{enough-space}
 
 -- Where n records are written, the bytes in front are a clean dump with nothing due,
 pub written-clean : (plan list out : List ℕ) (n : ℕ) → answer plan list (length out) ≡ wrote n → judge (planOf plan) (decode (take (bytesFor n) (output plan list out))) ≡ clean n 0

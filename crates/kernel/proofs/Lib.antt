@@ -6,6 +6,7 @@ mod CallList
 mod CallsMade
 mod Placing
 mod Answering
+mod Room
 mod Wrote
 mod Dumped
 mod Watched

@@ -9,17 +9,17 @@ use Rattle.machine.specs.declared.state.State.{State}
 use Rattle.machine.specs.declared.reports.Report as code
 use Rattle.machine.specs.Lists.{reportOf}
 use Rattle.machine.specs.View.{view}
-use Rattle.machine.specs.Steps.{FirstDue, Delivers}
+use Rattle.machine.specs.Contracts.{FirstDue, Delivers}
 use Rattle.machine.proofs.Laws.{kind-is}
 use Rattle.dump.specs.Layout.{kindOf, operandOf}
-use Rattle.kernel.specs.Contracts.{placed, placedFrom, ReportsFit, Places}
+use Rattle.kernel.specs.Contracts.{recordPut, recordsPut, ReportsFit, Places}
 use Rattle.kernel.proofs.Giving.{Giving, giving-begin, giving-due, giving-next, giving-done, none-left}
 
 pub record Putting (n i : ℕ) (first : State) (before : List ℕ) (at : ℕ) (s : State) (out : List ℕ) : Type 0 where
   pub giving : Giving first s
   pub size : length out ≡ length before
   pub count : at + length (view s .due) ≡ i + length (view first .due)
-  pub bytes : placedFrom n at (map report (view s .due)) out ≡ placedFrom n i (map report (view first .due)) before
+  pub bytes : recordsPut n at (map report (view s .due)) out ≡ recordsPut n i (map report (view first .due)) before
 
 module _ {n i : ℕ} {first : State} {before : List ℕ} where
   pub putting-begin : ReportsFit first n i before → Putting n i first before i first before
@@ -31,20 +31,20 @@ module _ {n i : ℕ} {first : State} {before : List ℕ} where
     putting-fits h d = omega (arith, u .count, h .within)
 
     pub putting-next : (r : code.Report) (x : ℕ) (s' : State) (out' : List ℕ) → FirstDue r s → Delivers s' s r → x ≡ operandOf (report (reportOf r))
-        → out' ≡ placed n at (r .kind) x out → Putting n i first before (at + 1) s' out'
+        → out' ≡ recordPut n at (r .kind) x out → Putting n i first before (at + 1) s' out'
     putting-next r x s' out' f d e q =
         let due = giving-due (u .giving) f d in
         let given = report (reportOf r) in
-        let same : out' ≡ placed n at (kindOf given) (operandOf given) out =
-        q ∙ ap (λ y. placed n at (r .kind) y out) e ∙ ap (λ k. placed n at k (operandOf given) out) (sym (kind-is r (f .kind')))
+        let same : out' ≡ recordPut n at (kindOf given) (operandOf given) out =
+        q ∙ ap (λ y. recordPut n at (r .kind) y out) e ∙ ap (λ k. recordPut n at k (operandOf given) out) (sym (kind-is r (f .kind')))
         in
         record {
           giving = giving-next (u .giving) f d;
           size = ap length q ∙ simp length-set (u .size);
           count = omega (arith, u .count, ap length due);
           bytes =
-              ap (placedFrom n (at + 1) (map report (view s' .due))) same
-              ∙ sym (ap (λ (l : List Report). placedFrom n at (map report l) out) due)
+              ap (recordsPut n (at + 1) (map report (view s' .due))) same
+              ∙ sym (ap (λ (l : List Report). recordsPut n at (map report l) out) due)
               ∙ u .bytes;
         }
 
@@ -53,5 +53,5 @@ module _ {n i : ℕ} {first : State} {before : List ℕ} where
         record {
           settles = giving-done (u .giving) h;
           records' = omega (arith, u .count);
-          bytes = ap (λ (l : List Report). placedFrom n at (map report l) out) (sym (none-left (view s .due) h)) ∙ u .bytes;
+          bytes = ap (λ (l : List Report). recordsPut n at (map report l) out) (sym (none-left (view s .due) h)) ∙ u .bytes;
         }

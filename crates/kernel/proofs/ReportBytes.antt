@@ -5,7 +5,7 @@ use lib.Dec.{eqb}
 use Rattle.model.specs.Records.{report}
 use Rattle.machine.specs.declared.reports.Report.{Report}
 use Rattle.machine.specs.Lists.{reportOf}
-use Rattle.machine.specs.Steps.{IsReport}
+use Rattle.machine.specs.Contracts.{IsReport}
 use Rattle.machine.proofs.Laws.{by-kind}
 use Rattle.dump.specs.Layout.{nobody, operandOf}
 

@@ -1,8 +1,7 @@
 -- The bench kernel and the watch: what the one writes the other finds clean with nothing due, and every such dump is written so.
-use mathlib.Core.Path.{_≡_, subst}
+use mathlib.Core.Path.{_≡_}
 use mathlib.Core.Bool.{false}
 use mathlib.Core.List.{List, map}
-use mathlib.Core.Option.{none}
 use Prim.Native.Nat.{ℕ, _≤_}
 use lib.Dec.{T, ltb}
 use lib.ListN.{length, take}
@@ -10,14 +9,12 @@ use Rattle.model.specs.Searches.{all}
 use Rattle.model.specs.Records.{call}
 use Rattle.model.specs.Runs.{clean}
 use Rattle.model.specs.Bench.{callsOf}
-use Rattle.plan.specs.Bytes.{baseAt, threadCount, sectionCount}
-use Rattle.model.proofs.Loops.{length-listed}
 use Rattle.dump.specs.Layout.{decode, encode}
-use Rattle.dump.specs.Questions as dumps
 use Rattle.monitor.specs.Answers.{judged, check}
 use Rattle.monitor.proofs.Laws.{judged-passed, unrefused-judged}
 use Rattle.kernel.specs.Answers.{wrote, bytesFor, answer, output}
 use Rattle.kernel.proofs.Wrote.{wrote-all}
+use Rattle.kernel.proofs.Dumped.{of-bytes}
 use Rattle.kernel.proofs.Laws.{written-clean, written-passes, clean-written}
 
 -- For every call list that it accepts, the watch finds what it wrote clean with none due.
@@ -30,5 +27,4 @@ pub found-clean-is-written : (plan dump out : List ℕ) (n : ℕ) → T (all (λ
     → (answer plan (encode (map call (callsOf (decode dump)))) (length out) ≡ wrote n) × (take (length dump) (output plan (encode (map call (callsOf (decode dump)))) out) ≡ dump)
 found-clean-is-written plan dump out n b e r =
     let j = judged-passed plan dump (clean n 0) e in
-    let d = subst (λ t. dumps.refusal t (sectionCount plan) false dump ≡ none) (length-listed (baseAt plan) (threadCount plan)) (j .0 .dump') in
-    clean-written plan dump out n (j .0 .plan') b d (j .1) r
+    clean-written plan dump out n (j .0 .plan') b (of-bytes plan false dump (j .0 .dump')) (j .1) r

@@ -17,7 +17,7 @@ use Rattle.dump.specs.Layout.{encode}
 use Rattle.dump.specs.Questions as dumps
 use Rattle.dump.specs.Questions.{mostRecords}
 use Rattle.dump.proofs.Laws.{encode-length}
-use Rattle.kernel.specs.Answers.{wrote, made, isMade, recordsOf, bytesFor, questions, orElse, refusal, answerWith, answer, inFront, outputWith, output}
+use Rattle.kernel.specs.Answers.{wrote, made, isMade, recordsOf, bytesFor, questions, orElse, refusal, answerWith, answer, atFront, outputWith, output}
 
 -- one of two answers is none only if both are
 first-none : (a b : Option ℕ) → orElse a b ≡ none → a ≡ none
@@ -64,7 +64,7 @@ module _ (plan list out : List ℕ) (n : ℕ) (e : answer plan list (length out)
   yes : T (isMade (made plan list)) × T (leb (length rs) mostRecords) × T (leb (bytesFor (length rs)) (length out))
   yes = let r = all-yes (questions (made plan list) (length out)) (unrefused .2) in (r .0, r .1 .0, r .1 .1 .0)
 
-  written : output plan list out ≡ inFront rs out
+  written : output plan list out ≡ atFront rs out
   unfolding output
   written = ap (λ o. outputWith o rs out) (parts .0)
 

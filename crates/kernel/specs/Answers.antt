@@ -60,11 +60,11 @@ unfoldable pub answer : (plan list : List ℕ) (space : ℕ) → Answer
 answer plan list space = answerWith (refusal plan list space) (length (recordsOf (made plan list)))
 
 -- the dump at the front of the lent output, nothing after it touched; on a refusal no byte changes
-abbrev pub inFront : List Record → (out : List ℕ) → List ℕ
-inFront rs out = encode rs ++ drop (bytesFor (length rs)) out
+abbrev pub atFront : List Record → (out : List ℕ) → List ℕ
+atFront rs out = encode rs ++ drop (bytesFor (length rs)) out
 
 abbrev pub outputWith : Option ℕ → List Record → (out : List ℕ) → List ℕ
-outputWith none rs out = inFront rs out
+outputWith none rs out = atFront rs out
 outputWith (some q) rs out = out
 
 unfoldable pub output : (plan list out : List ℕ) → List ℕ

@@ -39,18 +39,18 @@ pub record Settles (r s : State) : Type 0 where
   pub seen : view r ≡ deliverAll (view s)
 
 -- whether every call is admitted, and how many records there are; 0 where one is not admitted
-pub record Counts (r : Counted) (rs : Option (List Record)) : Type 0 where
+pub record Tallies (r : Counted) (rs : Option (List Record)) : Type 0 where
   pub admitted' : r .admitted ≡ isMade rs
   pub records' : r .records ≡ length (recordsOf rs)
 
 -- record i of n, of this kind and operand, at its two places
-abbrev pub placed : (n i kind operand : ℕ) → List ℕ → List ℕ
-placed n i k x out = set (set (set out (2 + i) k) (2 + n + 2 * i) (x % 256)) (2 + n + 2 * i + 1) (x / 256)
+abbrev pub recordPut : (n i kind operand : ℕ) → List ℕ → List ℕ
+recordPut n i k x out = set (set (set out (2 + i) k) (2 + n + 2 * i) (x % 256)) (2 + n + 2 * i + 1) (x / 256)
 
 -- some records of n at their places, the first of them as record i
-abbrev pub placedFrom : (n i : ℕ) → List Record → List ℕ → List ℕ
-placedFrom n i [] out = out
-placedFrom n i (r ∷ rs) out = placedFrom n (i + 1) rs (placed n i (kindOf r) (operandOf r) out)
+abbrev pub recordsPut : (n i : ℕ) → List Record → List ℕ → List ℕ
+recordsPut n i [] out = out
+recordsPut n i (r ∷ rs) out = recordsPut n (i + 1) rs (recordPut n i (kindOf r) (operandOf r) out)
 
 -- a well-formed state, and room for its reports from record i on
 pub record ReportsFit (s : State) (n i : ℕ) (out : List ℕ) : Type 0 where
@@ -62,7 +62,7 @@ pub record ReportsFit (s : State) (n i : ℕ) (out : List ℕ) : Type 0 where
 pub record Places (r : Placed) (s : State) (n i : ℕ) (before after : List ℕ) : Type 0 where
   pub settles : Settles (r .state) s
   pub records' : r .records ≡ i + length (view s .due)
-  pub bytes : after ≡ placedFrom n i (map report (view s .due)) before
+  pub bytes : after ≡ recordsPut n i (map report (view s .due)) before
 
 -- every call is admitted, there are n records in all, and there is room for them
 pub record AllFit (rs : Option (List Record)) (n : ℕ) (out : List ℕ) : Type 0 where

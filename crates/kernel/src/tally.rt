@@ -2,8 +2,7 @@
 ghost use lib.Dec.{T};
 ghost use Rattle.model.specs.Formed.{formed};
 ghost use Rattle.machine.specs.View.{planOf, view};
-ghost use Rattle.kernel.specs.Contracts.{Passed, Settles, Counts, madeOf};
-use dump::layout::entry_at;
+ghost use Rattle.kernel.specs.Contracts.{Passed, Settles, Tallies, madeOf};
 use machine::state::State;
 use plan::Plan;
 use walk::single::step;
@@ -30,14 +29,14 @@ pub(crate) fn settled(state: State) -> State
 // The n calls of a list, each made with earlier reports already given: see model, Bench.bench.
 pub(crate) fn tally(plan: Plan, ceilings: &[u8; 16], list: &[u8], n: usize) -> Counted
     requires { ⌜ Passed plan (now ceilings) (now list) n ⌝ }
-    ensures { λ r. ⌜ Counts r (madeOf plan (now (list .entry))) ⌝ }
+    ensures { λ r. ⌜ Tallies r (madeOf plan (now (list .entry))) ⌝ }
 {
     let mut s = State::fresh(plan);
     let mut who: u8 = 255;
     let mut records: usize = 0;
     let mut k: usize = 0;
     while k < n {
-        let o = step(s, ceilings, who, entry_at(list, n, k));
+        let o = step(s, ceilings, who, list, k);
         let moved = o.state;
         if o.rule != 0 {
             return Counted {

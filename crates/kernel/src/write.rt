@@ -4,11 +4,11 @@ ghost use Prim.Native.Nat.{_≤_, _<_};
 ghost use lib.ListN.{length};
 ghost use Rattle.model.specs.Records.{report};
 ghost use Rattle.machine.specs.Lists.{reportOf};
-ghost use Rattle.machine.specs.Steps.{IsReport};
+ghost use Rattle.machine.specs.Contracts.{IsReport};
 ghost use Rattle.dump.specs.Layout.{operandOf};
-ghost use Rattle.kernel.specs.Answers.{recordsOf, bytesFor, inFront};
-ghost use Rattle.kernel.specs.Contracts.{Passed, madeOf, placed, ReportsFit, Places, AllFit};
-use dump::layout::entry_at;
+ghost use Rattle.kernel.specs.Answers.{recordsOf, bytesFor, atFront};
+ghost use Rattle.kernel.specs.Contracts.{Passed, madeOf, recordPut, ReportsFit, Places, AllFit};
+use dump::place::entry_at;
 use machine::reports::Report;
 use machine::state::State;
 use plan::Plan;
@@ -23,7 +23,7 @@ pub struct Placed {
 // Record i of n goes to its two places.
 fn put(out: &mut [u8], n: usize, i: usize, kind: u8, operand: u16)
     requires { ⌜ (i < n) × (bytesFor n ≤ length (now out)) ⌝ }
-    ensures { λ _. ⌜ now (out .exit) ≡ placed n i kind operand (now (out .entry)) ⌝ }
+    ensures { λ _. ⌜ now (out .exit) ≡ recordPut n i kind operand (now (out .entry)) ⌝ }
 {
     let at = 2 + n + 2 * i;
     out[2 + i] = kind;
@@ -72,7 +72,7 @@ pub(crate) fn write(
     n: usize,
 )
     requires { ⌜ Passed plan (now ceilings) (now list) calls × AllFit (madeOf plan (now list)) n (now out) ⌝ }
-    ensures { λ _. ⌜ now (out .exit) ≡ inFront (recordsOf (madeOf plan (now (list .entry)))) (now (out .entry)) ⌝ }
+    ensures { λ _. ⌜ now (out .exit) ≡ atFront (recordsOf (madeOf plan (now (list .entry)))) (now (out .entry)) ⌝ }
 {
     out[0] = (n % 256) as u8;
     out[1] = (n / 256) as u8;
@@ -81,8 +81,8 @@ pub(crate) fn write(
     let mut i: usize = 0;
     let mut k: usize = 0;
     while k < calls {
-        let e = entry_at(list, calls, k);
-        let o = step(s, ceilings, who, e);
+        let e = entry_at(list, k);
+        let o = step(s, ceilings, who, list, k);
         put(out, n, i, e.kind, e.operand);
         let moved = o.state;
         let w = put_reports(moved, out, n, i + 1);

@@ -13,20 +13,12 @@ use Rattle.lists.proofs.Holdings.{held-length}
 use Rattle.lists.proofs.Queues.{length-nibbles}
 -- what is read of a word where a number was set, and elsewhere
 pub use Rattle.lists.proofs.Words.{read-set, read-other}
--- a turn of a loop that takes the first of those left of a word, and its end
-pub use Rattle.lists.proofs.Queues.{first, ended}
--- a loop that keeps the first of greatest value: it gives way to one of greater value among those left
-pub use Rattle.lists.proofs.Queues.{overtaken, replaced, stayed, nobody}
--- a loop over holds that asks whether any passes; all pass where none fails
-pub use Rattle.lists.proofs.Holdings.{all-none, AnyLeft, missed, found, none-found}
 -- those that pass a test, of a list with one more at its end
 pub use Rattle.lists.proofs.Queues.{filter-kept, filter-dropped}
 -- a word has as many numbers that pass a test as are counted, at most
 pub use Rattle.lists.proofs.Queues.{times-within}
 -- numbers for threads, and back
 pub use Rattle.lists.proofs.Numbered.{numbered-threadOf, threadOf-numbered, number-is}
--- while nobody waits every thread has its base, whoever is taken for the owner
-pub use Rattle.lists.proofs.Current.{skip-owner}
 
 -- a list has as many entries as its count says
 

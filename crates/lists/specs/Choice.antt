@@ -1,4 +1,4 @@
--- Owner, current priority, chosen thread and heir, each from the parts that it is read from.
+-- Owner, current priority, chosen thread, its rivals and the heir, each from the parts that it is read from.
 use mathlib.Core.Bool.{Bool, false, cond, not, _&&_}
 use mathlib.Core.List.{List}
 use mathlib.Core.Option.{Option, none, some, Option·map}

@@ -38,6 +38,6 @@ ceilingIn ceilings h = getD ceilings (h .section) 0
 abbrev pub currentIn : (base : ℕ → ℕ) (owner urgency thread : ℕ) → ℕ
 currentIn base owner urgency t = cond (eqb owner t) (max (base t) urgency) (base t)
 
--- each of these threads has a base in the table
+-- each of these threads has a base above 0 in the table
 pub record Positive (bases threads : List ℕ) : Type 0 where
   pub at : (t : ℕ) → Mem t threads → 0 < entryOf bases t

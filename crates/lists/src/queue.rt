@@ -9,7 +9,7 @@ ghost use Rattle.model.specs.Formed.{areThreads};
 ghost use Rattle.lists.specs.Words.{entryOf};
 ghost use Rattle.lists.specs.Lists.{numbered, queued, currentIn, Positive};
 use crate::nibbles::with_nibble;
-use plan::ceilings::greater;
+use plan::order::greater;
 
 // The first in the lowest four bits of `items`; bits at `count` and above mean nothing.
 #[repr(C)]

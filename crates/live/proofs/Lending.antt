@@ -2,8 +2,7 @@
 use mathlib.Core.Path.{_≡_, refl, ap, sym, _∙_}
 use mathlib.Core.Logic.{_⊎_, inl, inr, _≢_}
 use mathlib.Core.Bool.{false, not, _&&_}
-use mathlib.Core.List.{List}
-use mathlib.Core.Option.{Option, none, some}
+use mathlib.Core.Option.{none}
 use Prim.Native.Nat.{ℕ, _<_}
 use native.Mathlib.Omega.{arith}
 use borrow.Author.Tests.{eq-eqb, ne-eqb}
@@ -11,30 +10,26 @@ use lib.Dec.{T, eqb, T-not}
 use lib.ListN.{length}
 use Rattle.model.specs.Plan.{threads}
 use Rattle.model.specs.State as state
-use Rattle.model.specs.Priorities.{chosen}
 use Rattle.model.specs.Runs.{Outcome, moved, broke}
 use Rattle.model.specs.Formed.{lastTick, formed}
 use Rattle.model.proofs.Tests.{and-left, and-both, eq-test, equal?}
 use Rattle.model.proofs.Laws.{WellFormed, all-yes}
 use Rattle.plan.specs.Bytes.{number}
 use Rattle.plan.specs.View as plans
-use Rattle.plan.proofs.Laws.{zero-none, threads-view}
+use Rattle.plan.proofs.Laws.{zero-none, number-some, threads-view}
 use Rattle.machine.specs.declared.Machine.{Machine}
 use Rattle.machine.specs.declared.state.State.{State}
-use Rattle.machine.specs.Lists.{numbered}
-use Rattle.machine.specs.View.{planOf, idle, view}
-use Rattle.machine.specs.Contracts.{Ceilings}
-use Rattle.machine.specs.Steps.{Answers}
-use Rattle.machine.proofs.Laws.{formed-facts, chosen-due, answers-moved, answers-broke}
-use Rattle.dump.specs.Layout.{recordOf, kindOf}
+use Rattle.machine.specs.View.{planOf, view}
+use Rattle.machine.proofs.Laws.{formed-facts}
+use Rattle.dump.specs.Layout.{recordOf}
 use Rattle.dump.specs.Questions.{kindAllowed, operandFits}
-use Rattle.dump.proofs.Laws.{allowed-back, kind-back}
 use Rattle.live.specs.declared.live.Watch.{Watch}
 use Rattle.live.specs.declared.live.Reply.the-variants as says
 use Rattle.live.specs.Watching as watching
-use Rattle.live.specs.Watching.{Watched, isRule, questions, refusal, outcomeOf, replyOf, stored, replyUnless, watchedUnless, reply, after}
-use Rattle.walk.specs.Contracts.{Single}
-use Rattle.live.specs.Contracts.{seen, Tells}
+use Rattle.live.specs.Watching.{isRule, questions, refusal, outcomeOf, replyOf, stored, reply, after}
+use Rattle.walk.specs.Contracts.{Advances}
+use Rattle.walk.proofs.Laws.{answers-moved, answers-broke}
+use Rattle.live.specs.Contracts.{Asked, seen, Tells}
 
 -- the answer Yes to 12, 7, 8 and 13
 pub record Passed (w : Watch) (kind operand : ℕ) : Type 0 where
@@ -73,22 +68,9 @@ module _ {w : Watch} {k n : ℕ} (a : Passed w k n) where
       go (inl z) = absurd (T-not (eqb k 7 && eqb (st .tickNumber) lastTick) (a .tick') (and-both (eqb k 7) (eqb (st .tickNumber) lastTick) (eq-test k 7 q) (eq-test (st .tickNumber) lastTick z)))
       go (inr d) = omega (arith, known .tick)
 
-  -- the record can be stepped over, from the lent state
-  pub steps-over : {ceilings : List ℕ} {who : ℕ} → Ceilings m ceilings → who ≡ numbered (chosen (planOf m) (idle m)) → Single (w .state) ceilings who k n
-  steps-over c e =
-      let fits : T (operandFits (m .plan .threads) (m .plan .sections) k n) = rw (threads-view (m .plan)) at (a .operand') in
-      record {
-        kind' = a .kind';
-        operand' = fits;
-        steps =
-            record {
-              formed = a .formed';
-              ceilings' = c;
-              chosen' = e ∙ ap numbered (sym (chosen-due (planOf m) m (st .due)));
-              allowed = allowed-back (planOf m) k n (a .operand');
-              tick = λ t. room (sym (kind-back k n (a .kind')) ∙ ap kindOf t);
-            };
-      }
+  -- the record can be judged, from the lent state
+  pub asked : Asked (w .state) k n
+  asked = record { formed' = a .formed'; operand' = rw (threads-view (m .plan)) at (a .operand'); room = room }
 
 -- replies differ, and a broken rule is told
 
@@ -108,11 +90,7 @@ broken-tells e = cc
 module _ (w : Watch) (k n : ℕ) where
   refuses : {q : ℕ} → q ≡ number (refusal (seen w) k n) → q ≢ 0 → (reply (seen w) k n ≡ watching.refused q) × (after (seen w) k n ≡ seen w)
   unfolding reply after
-  refuses {q} e d = go (refusal (seen w) k n) _ _ e
-    where
-      go : (o : Option ℕ) (r : watching.Reply) (v : Watched) → q ≡ number o → (replyUnless o r ≡ watching.refused q) × (watchedUnless o v (seen w) ≡ seen w)
-      go none r v z = absurd (d z)
-      go (some m) r v z = (ap watching.refused (sym z), refl)
+  refuses {q} e d = let o = number-some (refusal (seen w) k n) q e d in (rw o, rw o)
 
   module _ (e : refusal (seen w) k n ≡ none) where
     repeats : w .rule ≢ 0 → (reply (seen w) k n ≡ watching.broken (w .rule)) × (after (seen w) k n ≡ seen w)
@@ -148,7 +126,7 @@ module _ (w : Watch) (k n : ℕ) where
           breach' = λ m x y. absurd (d x);
         }
 
-    module _ (d : w .rule ≡ 0) {after' : State} {who rule' : ℕ} (a : Answers after' who rule' (w .state) (recordOf k n)) where
+    module _ (d : w .rule ≡ 0) {after' : State} {who rule' : ℕ} (a : Advances after' who rule' (w .state) (recordOf k n)) where
       pub tells-broken : rule' ≢ 0 → Tells (record { watch = record { state = w .state; rule = rule' }; reply = says.Broken rule' }) w k n
       tells-broken f =
           let r = judges e d (broke rule') (answers-broke a f) in

@@ -20,9 +20,9 @@ use Rattle.model.proofs.Searches.{all-at}
 use Rattle.model.proofs.Loops.{listed}
 use Rattle.model.proofs.Laws.{Reached, begin, next, reached-formed, judge-run, counts-fit, tick-at-most, broken-rule, run-ended, run-moved, run-broke}
 use Rattle.plan.specs.Bytes.{between, planOf}
-use Rattle.dump.specs.Layout.{recordCount, kindAt, operandAt, decode, kindOf, operandOf}
+use Rattle.dump.specs.Layout.{recordCount, kindAt, operandAt, recordAt, decode, kindOf, operandOf}
 use Rattle.dump.specs.Questions.{mostRecords, kindAllowed, operandFits}
-use Rattle.dump.proofs.Laws.{kind-back, operand-back, record-back, operand-fits, fits-kind, entryAt, decode-length, whole, entry-passes}
+use Rattle.dump.proofs.Laws.{kind-back, operand-back, record-back, operand-fits, fits-kind, decode-length, whole, entry-passes}
 use Rattle.monitor.specs.Answers.{firstRefusal}
 use Rattle.live.specs.Watching as watching
 use Rattle.live.specs.Watching.{Watched, fresh, broken, isRule, refusal, replyOf, stored, reply, after}
@@ -157,7 +157,7 @@ module _ (plan dump : List ℕ) (e : firstRefusal plan dump ≡ none) where
       rs = decode dump
 
       r : Record
-      r = entryAt dump i
+      r = recordAt dump i
 
       c : Passed plan dump
       c = passed plan dump e
@@ -178,4 +178,4 @@ module _ (plan dump : List ℕ) (e : firstRefusal plan dump ≡ none) where
       operand = operand-back (threads p) (p .sections) (kindAt dump i) (operandAt dump i) (fits .1)
 
       front : take (suc i) rs ≡ take i rs ++ r ∷ []
-      front = take-suc rs i (call Tick) (omega (arith, size)) ∙ ap (λ x. take i rs ++ x ∷ []) (listed (entryAt dump) (recordCount dump) i (call Tick) h)
+      front = take-suc rs i (call Tick) (omega (arith, size)) ∙ ap (λ x. take i rs ++ x ∷ []) (listed (recordAt dump) (recordCount dump) i (call Tick) h)

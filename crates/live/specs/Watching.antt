@@ -43,7 +43,7 @@ pub data Reply : Type 0 where
   clean : (due : ℕ) → Reply
   broken : (rule : ℕ) → Reply
 
--- a stored rule is one of document 01's
+-- a stored rule is one of document 01's, or none
 abbrev pub isRule : ℕ → Bool
 isRule n = eqb n 0 || between 21 30 n
 

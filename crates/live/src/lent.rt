@@ -2,18 +2,13 @@
 ghost use Rattle.live.specs.Contracts.{Tells};
 use crate::live::Reply;
 use crate::live::Watch;
-use crate::live::advance;
+use crate::live::live;
 
 // Advances a lent watch state by one record, and answers of it. Rules out a step that does not store what it tells.
 pub fn step(watch: &mut Watch, kind: u8, operand: u16) -> Reply
     ensures { λ r. ⌜ Tells (record { watch = now (watch .exit); reply = r }) (now (watch .entry)) kind operand ⌝ }
 {
-    let a = advance(*watch, kind, operand);
-    if a.slight {
-        watch.state.machine.tick.0 = a.watch.state.machine.tick.0;
-        watch.rule = a.watch.rule;
-    } else {
-        *watch = a.watch;
-    }
-    a.reply
+    let told = live(*watch, kind, operand);
+    *watch = told.watch;
+    told.reply
 }

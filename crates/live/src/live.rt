@@ -1,16 +1,13 @@
 // The watch state and the live step: one record at a time, on a state that is lent.
 ghost use mathlib.Core.Path.{_≡_};
-ghost use mathlib.Core.Bool.{true};
 ghost use lib.ListN.{length};
 ghost use Rattle.machine.specs.View.{view};
 ghost use Rattle.plan.specs.Bytes.{number};
 ghost use Rattle.dump.specs.Layout.{recordOf};
+ghost use Rattle.walk.specs.Contracts.{Advances};
 ghost use Rattle.live.specs.Watching.{isRule, refusal};
-ghost use Rattle.live.specs.Contracts.{Asked, Judges, seen, Begins, Tells, Advances};
+ghost use Rattle.live.specs.Contracts.{Asked, seen, Begins, Tells};
 ghost use Rattle.live.specs.declared.live.Reply.the-variants as says;
-use crate::heard::Judged;
-use crate::heard::hear;
-use dump::layout::Entry;
 use dump::questions::kind_allowed;
 use dump::questions::operand_fits;
 use formed::formed::formed;
@@ -19,6 +16,7 @@ use machine::time::LAST_TICK;
 use plan::Plan;
 use plan::bytes;
 use plan::ceilings::ceilings;
+use walk::single::Stepped;
 use walk::single::step;
 
 // A state of the machine and the rule of a breach that is stored, 0 if there is none. Plain numbers only, since it may be lent from outside.
@@ -44,13 +42,6 @@ pub enum Reply {
 pub struct Told {
     pub watch: Watch,
     pub reply: Reply,
-}
-
-// What a live step tells, and whether it moved nothing but the tick number and the stored rule, so that nothing else need be stored.
-pub struct Advanced {
-    pub watch: Watch,
-    pub reply: Reply,
-    pub slight: bool,
 }
 
 // A watch state is made from a plan that passes 1 to 4, and carries it; of another it carries no thread, so that every step answers 12.
@@ -100,94 +91,60 @@ fn refused(watch: Watch, kind: u8, operand: u16) -> u8
         return 8;
     }
     let t = m.tick;
-    if kind == 7 && t.0 == LAST_TICK {
+    if kind == 7 && t.0 == LAST_TICK.0 {
         return 13;
     }
     0
 }
 
-// A call that passed 12, 7, 8 and 13, by a walk.
-fn called(state: State, kind: u8, operand: u16) -> Judged
+// One record that passed 12, 7, 8 and 13: a walk over a dump that has it alone. Nearly every record of a show is a Tick at which nobody wakes,
+// which moves the tick number alone and is not walked over.
+fn judged(state: State, kind: u8, operand: u16) -> Stepped
     requires { ⌜ Asked state kind operand ⌝ }
-    ensures { λ r. ⌜ Judges r state (recordOf kind operand) ⌝ }
+    ensures { λ r. ⌜ Advances (r .state) (r .chosen) (r .rule) state (recordOf kind operand) ⌝ }
 {
     let m = state.machine;
     let p = m.plan;
     let all = ceilings(p);
     let who = m.chosen(&all);
-    let o = step(state, &all, who, Entry { kind, operand });
-    let after = o.state;
-    Judged {
-        state: after,
-        rule: o.rule,
+    if kind == 7 {
+        let c = state.opened(who).quieted();
+        if !c.owes() && c.is_quiet() {
+            let t = c.passed();
+            return Stepped {
+                state: t.closed(),
+                chosen: who,
+                rule: 0,
+            };
+        }
     }
+    let bytes = [1u8, 0, kind, (operand % 256) as u8, (operand / 256) as u8];
+    step(state, &all, who, &bytes, 0)
 }
 
 // A record that moved the machine: the state after it, clean with the number due.
-fn moved(watch: Watch, after: State, slight: bool) -> Advanced
-    ensures { λ r. ⌜ r ≡ record { watch = record { state = after; rule = watch .rule }; reply = says.Clean (length (view after .due)); slight = slight } ⌝ }
+fn moved(watch: Watch, after: State) -> Told
+    ensures { λ r. ⌜ r ≡ record { watch = record { state = after; rule = watch .rule }; reply = says.Clean (length (view after .due)) } ⌝ }
 {
-    let mut w = watch;
-    w.state = after;
-    Advanced {
-        watch: w,
+    Told {
+        watch: Watch {
+            state: after,
+            rule: watch.rule,
+        },
         reply: Reply::Clean(after.due_count()),
-        slight,
     }
 }
 
 // A new breach changes the stored rule alone.
-fn breached(watch: Watch, rule: u8) -> Advanced
-    ensures { λ r. ⌜ r ≡ record { watch = record { state = watch .state; rule = rule }; reply = says.Broken rule; slight = true } ⌝ }
+fn breached(watch: Watch, rule: u8) -> Told
+    ensures { λ r. ⌜ r ≡ record { watch = record { state = watch .state; rule = rule }; reply = says.Broken rule } ⌝ }
 {
     let mut w = watch;
     w.rule = rule;
-    Advanced {
+    Told {
         watch: w,
         reply: Reply::Broken(rule),
-        slight: true,
     }
-}
-
-// One record, on any lent state. A Tick that moves the tick number alone and a report are judged without ceilings, choice or walk.
-pub fn advance(watch: Watch, kind: u8, operand: u16) -> Advanced
-    ensures { λ r. ⌜ Advances r watch kind operand ⌝ }
-{
-    let no = refused(watch, kind, operand);
-    if no != 0 {
-        return Advanced {
-            watch,
-            reply: Reply::Refused(no),
-            slight: true,
-        };
-    }
-    if watch.rule != 0 {
-        return Advanced {
-            watch,
-            reply: Reply::Broken(watch.rule),
-            slight: true,
-        };
-    }
-    let s = watch.state;
-    if kind == 7 && s.is_still() {
-        let c = s.opened();
-        let p = c.passed();
-        return moved(watch, p.closed(s.given), true);
-    }
-    if 16 <= kind {
-        let o = hear(s, Entry { kind, operand });
-        if o.rule != 0 {
-            return breached(watch, o.rule);
-        }
-        let after = o.state;
-        return moved(watch, after, false);
-    }
-    let o = called(s, kind, operand);
-    if o.rule != 0 {
-        return breached(watch, o.rule);
-    }
-    let after = o.state;
-    moved(watch, after, false)
 }
 
 // One record, on any lent state: the answer, and the state after it. Rules out a step that leaves the state alone, one that judges anew after
@@ -195,8 +152,23 @@ pub fn advance(watch: Watch, kind: u8, operand: u16) -> Advanced
 pub fn live(watch: Watch, kind: u8, operand: u16) -> Told
     ensures { λ r. ⌜ Tells r watch kind operand ⌝ }
 {
-    let a = advance(watch, kind, operand);
-    let w = a.watch;
-    let reply = a.reply;
-    Told { watch: w, reply }
+    let no = refused(watch, kind, operand);
+    if no != 0 {
+        return Told {
+            watch,
+            reply: Reply::Refused(no),
+        };
+    }
+    if watch.rule != 0 {
+        return Told {
+            watch,
+            reply: Reply::Broken(watch.rule),
+        };
+    }
+    let o = judged(watch.state, kind, operand);
+    if o.rule != 0 {
+        return breached(watch, o.rule);
+    }
+    let after = o.state;
+    moved(watch, after)
 }

@@ -1,5 +1,6 @@
--- What the rules of a call say, where it breaks none; and what a call hands back, by whether it breaks one.
-use mathlib.Core.Path.{_≡_, ap, sym, _∙_}
+-- What is asked of the machine of each call with nothing due, what its rules say where it breaks none, and what it makes before its Switch.
+use mathlib.Core.Path.{_≡_, refl, ap, ap₂, sym, _∙_}
+use mathlib.Core.List.{[]}
 use mathlib.Core.Option.{Option, some}
 use Prim.Native.Nat.{ℕ, _<_}
 use lib.Dec.{T}
@@ -10,12 +11,35 @@ use Rattle.model.specs.State.{dormant, condition}
 use Rattle.model.specs.Priorities.{chosen}
 use Rattle.model.specs.Calls.{perform, byCaller}
 use Rattle.model.specs.Rules.{holdsNot, lastTaken, broken}
+use Rattle.model.specs.Formed.{lastTick}
+use Rattle.lists.specs.Lists.{numbered}
 use Rattle.machine.specs.declared.Machine.{Machine}
-use Rattle.machine.specs.declared.calls.Called.{Called}
+use Rattle.machine.specs.declared.reports.Reports.{Reports}
 use Rattle.machine.specs.Lists.{owed}
 use Rattle.machine.specs.View.{planOf, viewed, idle}
 use Rattle.machine.specs.Rules.{ruleNumber}
-use Rattle.machine.specs.Contracts.{Formed, reportsOf, Makes}
+use Rattle.machine.proofs.Facts.{Formed}
+
+-- What each call asks. The caller is the number of the chosen thread, 255 where there is none.
+
+pub record CreateAsked (m : Machine) (thread : ℕ) : Type 0 where
+  pub formed : Formed m
+  pub known : thread < m .plan .threads
+
+pub record Asked (m : Machine) (caller : ℕ) : Type 0 where
+  pub formed : Formed m
+  pub caller' : caller ≡ numbered (chosen (planOf m) (idle m))
+
+pub record SectionAsked (m : Machine) (caller section : ℕ) : Type 0 where
+  pub asked : Asked m caller
+  pub known : section < m .plan .sections
+
+-- the tick number has room to grow
+pub record Ticks (m : Machine) : Type 0 where
+  pub formed : Formed m
+  pub room : m .tick .0 < lastTick
+
+-- What the rules say.
 
 pub record Creates (m : Machine) (thread : ℕ) : Type 0 where
   pub formed : Formed m
@@ -43,18 +67,28 @@ pub record Gives (m : Machine) (caller section : ℕ) : Type 0 where
 abbrev pub asked : Machine → Call → ℕ
 asked m k = ruleNumber (broken (planOf m) (idle m) (call k))
 
--- what a call hands back stands for this state, the reports being those due in it; the plan is the one that came
-pub record Meets (r : Called) (m : Machine) (st : state.State) : Type 0 where
-  pub plan' : r .machine .plan ≡ m .plan
-  pub seen : viewed (r .machine) (owed (reportsOf r)) ≡ st
+-- What a call leaves before its Switch: a machine and its reports, which stand for this state; the plan is the one that came.
+pub record Meets (left : Machine) (rs : Reports) (m : Machine) (st : state.State) : Type 0 where
+  pub plan' : left .plan ≡ m .plan
+  pub seen : viewed left (owed rs) ≡ st
 
--- a call that breaks no rule, and one that does
+-- The first broken rule, 0 if there is none; then what the model's call makes, or the machine as it came, with nothing due.
+pub record Makes (left : Machine) (rs : Reports) (rule : ℕ) (m : Machine) (k : Call) : Type 0 where
+  pub plan' : left .plan ≡ m .plan
+  pub rule' : rule ≡ asked m k
+  pub made : rule ≡ 0 → viewed left (owed rs) ≡ perform (planOf m) k (idle m)
+  pub kept : (rule ≡ 0 → ⊥) → viewed left (owed rs) ≡ idle m
 
-pub admits : {m : Machine} {k : Call} {st : state.State} (r : Called) → r .rule ≡ asked m k → perform (planOf m) k (idle m) ≡ st → r .rule ≡ 0 → Meets r m st → Makes r m k
-admits r e q z w = record { plan' = w .plan'; rule' = e; made = λ k. w .seen ∙ sym q; kept = λ d. absurd (d z) }
+same : {left left' : Machine} {rs rs' : Reports} {m : Machine} {st : state.State} → left ≡ left' → rs ≡ rs' → Meets left' rs' m st → Meets left rs m st
+same a b w = record { plan' = ap (λ (x : Machine). x .plan) a ∙ w .plan'; seen = ap₂ (λ (x : Machine) (l : Reports). viewed x (owed l)) a b ∙ w .seen }
 
-pub refuses : {m : Machine} {k : Call} (r : Called) → r .rule ≡ asked m k → (r .rule ≡ 0 → ⊥) → Meets r m (idle m) → Makes r m k
-refuses r e d w = record { plan' = w .plan'; rule' = e; made = λ z. absurd (d z); kept = λ k. w .seen }
+-- a call that breaks no rule, and one that does, which leaves the machine and no report; on either way both are those named last
+module _ {left : Machine} {rs rs' : Reports} {rule : ℕ} {m : Machine} {k : Call} (e : rule ≡ asked m k) where
+  pub admits : {left' : Machine} {st : state.State} → perform (planOf m) k (idle m) ≡ st → rule ≡ 0 → left ≡ left' → rs ≡ rs' → Meets left' rs' m st → Makes left rs rule m k
+  admits q z a b w = let v = same a b w in record { plan' = v .plan'; rule' = e; made = λ k. v .seen ∙ sym q; kept = λ d. absurd (d z) }
+
+  pub refuses : (rule ≡ 0 → ⊥) → left ≡ m → rs ≡ rs' → owed rs' ≡ [] → Makes left rs rule m k
+  refuses d a b n = let v = same {m = m} a b (record { plan' = refl; seen = ap (viewed m) n }) in record { plan' = v .plan'; rule' = e; made = λ z. absurd (d z); kept = λ k. v .seen }
 
 -- what the model's call of the chosen thread does
 pub by : {m : Machine} {x : ℕ} → Runs m x → (act : ℕ → state.State → state.State) → byCaller (chosen (planOf m) (idle m)) act (idle m) ≡ act x (idle m)

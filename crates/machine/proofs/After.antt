@@ -1,4 +1,4 @@
--- What a call leaves of a well-formed machine: enough to find the chosen thread and to ask about the Switch, though a section may be held twice.
+-- What a call leaves of a well-formed machine before its Switch: enough to find the chosen thread and to ask about the Switch, though a section may be held twice.
 use mathlib.Core.Path.{_≡_, refl, ap, sym, subst, _∙_}
 use mathlib.Core.Logic.{_⊎_, inl, inr}
 use mathlib.Core.Bool.{Bool, true, false, cond, not}
@@ -19,12 +19,12 @@ use Rattle.plan.specs.View as plans
 use Rattle.plan.specs.declared.Plan.{Plan}
 use Rattle.plan.proofs.Laws.{threads-view}
 use Rattle.machine.specs.declared.Machine.{Machine}
-use Rattle.machine.specs.declared.calls.Called.{Called}
+use Rattle.machine.specs.declared.reports.Reports.{Reports}
 use Rattle.lists.specs.Lists.{queued, held}
-use Rattle.machine.specs.View.{planOf, idle, view}
-use Rattle.machine.specs.Contracts.{Ticks, Ceilings, Chooses, reportsOf}
-use Rattle.machine.specs.Steps.{Settles}
-use Rattle.machine.proofs.Admitted.{Creates, Runs, Takes, Gives, Meets}
+use Rattle.machine.specs.View.{planOf, idle}
+use Rattle.machine.specs.Contracts.{Ceilings, Chooses}
+use Rattle.machine.proofs.Admitted.{Ticks, Creates, Runs, Takes, Gives, Meets}
+use Rattle.machine.proofs.Switched.{Settles}
 use Rattle.machine.proofs.Facts.{Facts, facts}
 use Rattle.lists.proofs.Laws.{length-queued, length-held}
 use Rattle.machine.proofs.Views.{length-owed}
@@ -43,7 +43,7 @@ pub record After (threads : ℕ) (st : State) : Type 0 where
   pub last : lastReported st ≡ st .reported
 
 -- the lists fit before the call, with nothing due
-before : {m : Machine} → Facts m → After (m .plan .threads) (idle m)
+pub before : {m : Machine} → Facts m → After (m .plan .threads) (idle m)
 before {m} f =
     let l = listed f in
     record {
@@ -207,37 +207,37 @@ given {m} {x} {s} g = handed (heir (planOf m) (idle m)) (λ w e. greatest-is (ba
     handed none waits = frees
     handed (some w) waits = either (aboveAll (planOf m) w (filter (λ h. not (isHold s x h)) (held (m .holds)))) (λ b. passes w (waits w refl)) (λ b. refuses w)
 
--- What a call hands back, where its machine and reports stand for such a state.
+-- What a call leaves, where its machine and reports stand for such a state.
+module _ {m left : Machine} {rs : Reports} {st : State} (f : Facts m) (k : Meets left rs m st) (a : After (m .plan .threads) st) where
+  plan-kept : planOf left ≡ planOf m
+  plan-kept = ap plans.view (k .plan')
 
-plan-kept : {m : Machine} {st : State} (r : Called) → Meets r m st → planOf (r .machine) ≡ planOf m
-plan-kept r k = ap plans.view (k .plan')
+  -- it has what finding the chosen thread asks
+  chooses : (ceilings : List ℕ) → Ceilings m ceilings → Chooses left ceilings
+  chooses ceilings c =
+      let same : left .plan .threads ≡ m .plan .threads = ap (λ (p : Plan). p .threads) (k .plan') in
+      record {
+        valid = subst (λ p. T (validPlan p)) (sym plan-kept) (f .valid);
+        listed =
+            record {
+              threads' = omega (arith, same, f .fits .threads);
+              counts =
+                  record {
+                    queue' = omega (arith, length-queued (left .queue), ap (λ (z : State). length (z .queue)) (k .seen), a .queue');
+                    holds' = omega (arith, length-held (left .holds), ap (λ (z : State). length (z .holds)) (k .seen), a .holds');
+                    waits' = omega (arith, length-queued (left .waits), ap (λ (z : State). length (z .waits)) (k .seen), a .waits');
+                  };
+              known = λ t i. omega (arith, same, a .known t (subst (λ (l : List ℕ). Mem t l) (ap (λ (z : State). z .queue) (k .seen)) i));
+              waiting' = λ t i. omega (arith, same, a .waiting' t (subst (λ (l : List ℕ). Mem t l) (ap (λ (z : State). z .waits) (k .seen)) i));
+            };
+        ceilings' = c ∙ ap (λ p. map (ceiling p) (upTo 16)) (sym plan-kept);
+      }
 
--- it has what finding the chosen thread asks
-chooses : {m : Machine} {st : State} (r : Called) → Facts m → Meets r m st → After (m .plan .threads) st → (ceilings : List ℕ) → Ceilings m ceilings → Chooses (r .machine) ceilings
-chooses {m} r f k a ceilings c =
-    let same : r .machine .plan .threads ≡ m .plan .threads = ap (λ (p : Plan). p .threads) (k .plan') in
-    record {
-      valid = subst (λ p. T (validPlan p)) (sym (plan-kept r k)) (f .valid);
-      listed =
-          record {
-            threads' = omega (arith, same, f .fits .threads);
-            counts =
-                record {
-                  queue' = omega (arith, length-queued (r .machine .queue), ap (λ (z : State). length (z .queue)) (k .seen), a .queue');
-                  holds' = omega (arith, length-held (r .machine .holds), ap (λ (z : State). length (z .holds)) (k .seen), a .holds');
-                  waits' = omega (arith, length-queued (r .machine .waits), ap (λ (z : State). length (z .waits)) (k .seen), a .waits');
-                };
-            known = λ t i. omega (arith, same, a .known t (subst (λ (l : List ℕ). Mem t l) (ap (λ (z : State). z .queue) (k .seen)) i));
-            waiting' = λ t i. omega (arith, same, a .waiting' t (subst (λ (l : List ℕ). Mem t l) (ap (λ (z : State). z .waits) (k .seen)) i));
-          };
-      ceilings' = c ∙ ap (λ p. map (ceiling p) (upTo 16)) (sym (plan-kept r k));
-    }
-
--- and what the Switch asks
-pub settles : {m : Machine} {st : State} (r : Called) → Facts m → Meets r m st → After (m .plan .threads) st → (ceilings : List ℕ) → Ceilings m ceilings → Settles r ceilings
-settles r f k a ceilings c =
-    record {
-      chooses = chooses r f k a ceilings c;
-      room = omega (arith, length-owed (reportsOf r), ap (λ (z : State). length (z .due)) (k .seen), a .few);
-      last = ap lastReported (k .seen) ∙ a .last ∙ sym (ap (λ (z : State). z .reported) (k .seen));
-    }
+  -- and what the Switch asks
+  pub settles : (ceilings : List ℕ) → Ceilings m ceilings → Settles left rs ceilings
+  settles ceilings c =
+      record {
+        chooses = chooses ceilings c;
+        room = omega (arith, length-owed rs, ap (λ (z : State). length (z .due)) (k .seen), a .few);
+        last = ap lastReported (k .seen) ∙ a .last ∙ sym (ap (λ (z : State). z .reported) (k .seen));
+      }

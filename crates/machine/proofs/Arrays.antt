@@ -1,4 +1,4 @@
--- The entries of an array that are in use, as a list: with one more entry, and how many they are.
+-- The entries of an array that are in use, as a list: with one more entry, and where two arrays have the same entries in use.
 use mathlib.Core.Path.{_≡_, refl, ap, _∙_}
 use mathlib.Core.List.{List, [], _∷_, _++_, map}
 use Prim.Native.Nat.{ℕ, zero, suc, _+_, _≤_, _<_}

@@ -18,8 +18,7 @@ use Rattle.machine.specs.declared.Machine.{Machine}
 use Rattle.lists.specs.Lists.{numbered, held}
 use Rattle.machine.specs.View.{planOf, idle}
 use Rattle.machine.specs.Rules.{ruleNumber, runRule, freeRule, createRule, takeRule, giveRule}
-use Rattle.machine.specs.Contracts.{CreateAsked, Asked, SectionAsked}
-use Rattle.machine.proofs.Admitted.{Creates, Runs, Takes, Gives, asked}
+use Rattle.machine.proofs.Admitted.{CreateAsked, Asked, SectionAsked, Creates, Runs, Takes, Gives, asked}
 use Rattle.machine.proofs.Facts.{facts}
 use Rattle.machine.proofs.Room.{queued-known}
 use Rattle.machine.proofs.Unbroken.{yes-to-all}

@@ -1,4 +1,4 @@
--- Who is chosen: the code's numbers for owner, current priority and chosen thread are the model's.
+-- Who is chosen, who is rivalled, who inherits: what is read off the lists, the table of bases and the ceilings made once is the model's.
 use mathlib.Core.Path.{_≡_, refl, ap, ap₂, sym, fun-ext, _∙_}
 use mathlib.Core.Logic.{_⊎_, inl, inr}
 use mathlib.Core.Bool.{cond, not, _&&_}

@@ -15,6 +15,7 @@ use Rattle.model.specs.Calls.{sleepsUntil, wanted}
 use Rattle.model.specs.Rules.{isDormant}
 use Rattle.model.specs.Formed.{lastWake, inWaits}
 use Rattle.model.proofs.Laws.{tag}
+use Rattle.machine.specs.declared.time.Tick.{Tick}
 use Rattle.machine.specs.View.{conditionOf, conditionIn, conditionsOf}
 use Rattle.machine.specs.Contracts.{wakesAt}
 
@@ -64,7 +65,7 @@ module _ (s n w : ℕ) where
       (λ q. absurd (omega (arith, rw q at (ap inWaits e)))) (λ q. rw q at (ap wanted e)) (λ q. absurd (omega (arith, ap wanted e, ap wanted (at-none q))))
 
 -- words of zeros stand for threads that are all dormant
-pub all-dormant : (threads : ℕ) (wakes : List ℕ) → conditionsOf threads (record { states = 0; wants = 0 }) wakes ≡ replicate threads dormant
+pub all-dormant : (threads : ℕ) (wakes : List Tick) → conditionsOf threads (record { states = 0; wants = 0 }) wakes ≡ replicate threads dormant
 all-dormant threads wakes = from 0 threads
   where
     from : (i n : ℕ) → map (conditionIn (record { states = 0; wants = 0 }) wakes) (countFrom i n) ≡ replicate n dormant

@@ -6,15 +6,18 @@ use native.Mathlib.Omega.{arith}
 use lib.Dec.{T}
 use Rattle.model.specs.Plan.{validPlan}
 use Rattle.model.specs.State.{waiting, Hold, condition}
-use Rattle.model.specs.Formed.{lastTick}
+use Rattle.model.specs.Formed.{formed, lastTick}
 use Rattle.model.proofs.Searches.{Pairwise}
 use Rattle.model.proofs.Laws.{OtherSection, Agree, well-formed}
 use Rattle.plan.specs.View.{Fits}
 use Rattle.plan.proofs.Laws.{threads-view, valid-fits}
 use Rattle.machine.specs.declared.Machine.{Machine}
 use Rattle.machine.specs.View.{planOf, idle}
-use Rattle.machine.specs.Contracts.{Formed}
 use Rattle.machine.proofs.Views.{sized}
+
+-- A machine with nothing due is well formed: the answer is not 12.
+pub record Formed (m : Machine) : Type 0 where
+  pub passes : T (formed (planOf m) (idle m))
 
 pub record Facts (m : Machine) : Type 0 where
   pub fits : Fits (m .plan)

@@ -11,13 +11,13 @@ mod Meets
 mod Switched
 mod Woken
 mod Quieted
-mod Stilled
 mod After
 mod ReportKinds
-mod InPlace
 mod Owing
 mod Questions
 mod Unbroken
 mod Asking
+mod Judged
 mod Outcomes
+mod Opening
 pub mod Laws

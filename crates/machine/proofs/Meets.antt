@@ -1,12 +1,11 @@
--- What the proofs of the calls share: two states that remember the same are equal, and how many reports a list of them has.
+-- What the proofs of the calls share: two states that remember the same are equal, and there are as many reports as the list of them has.
 use mathlib.Core.Path.{_≡_, ap, sym, _∙_}
-use mathlib.Core.List.{List, [], _∷_}
-use lib.ListN.{length, set}
+use mathlib.Core.List.{List}
+use lib.ListN.{length}
 use Rattle.model.specs.State.{State}
 use Rattle.model.specs.Records as records
-use Rattle.machine.specs.declared.reports.Report.{Report}
 use Rattle.machine.specs.declared.reports.Reports.{Reports}
-use Rattle.machine.specs.Lists.{reportOf, noReports, owed}
+use Rattle.machine.specs.Lists.{owed}
 use Rattle.machine.proofs.Views.{length-owed}
 
 -- two states that remember the same are equal
@@ -16,18 +15,3 @@ alike n cs q hs ws w ds = λ i. record { tickNumber = n i; conditions = cs i; qu
 -- there are as many reports as the list of them has
 pub owed-count : (rs : Reports) {l : List records.Report} → owed rs ≡ l → rs .count ≡ length l
 owed-count rs e = sym (length-owed rs) ∙ ap length e
-
--- the reports of a call that makes none due, one, or two
-
-module _ (rs : Reports) (e : rs ≡ noReports) where
-  pub nothing-owed : owed rs ≡ []
-  unfolding noReports
-  nothing-owed = rw e
-
-  pub one-owed : (x : Report) → owed (record { items = set (rs .items) 0 x; count = 1 }) ≡ reportOf x ∷ []
-  unfolding noReports
-  one-owed x = rw e
-
-  pub two-owed : (x y : Report) → owed (record { items = set (set (rs .items) 0 x) 1 y; count = 2 }) ≡ reportOf x ∷ reportOf y ∷ []
-  unfolding noReports
-  two-owed x y = rw e

@@ -1,274 +1,191 @@
--- What a step answers, case by case. Something is due: a call breaks 21, a report is compared with the first due. Nothing is due: a report
--- breaks 28, a call is made by its method and followed by its Switch, or is a Tick that wakes nobody.
-use mathlib.Core.Path.{_≡_, refl, ap, sym, subst, _∙_}
+-- What a call answers with nothing due: it is made and followed by its Switch, or breaks a rule; or it is a Tick that wakes nobody.
+use mathlib.Core.Path.{_≡_, refl, ap, ap₂, sym, subst, _∙_}
 use mathlib.Core.Logic.{_⊎_, inl, inr, _≢_}
-use mathlib.Core.Bool.{cond}
-use mathlib.Core.List.{List, []}
-use mathlib.Core.Option.{Option, none, some}
-use Prim.Native.Nat.{ℕ, zero, suc, _+_, _≤_, _<_}
+use mathlib.Core.Bool.{Bool, true, false, cond, not, _&&_}
+use mathlib.Core.List.{List, [], _∷_, _++_}
+use Prim.Native.Nat.{ℕ, _+_, _<_}
 use native.Mathlib.Omega.{arith}
-use borrow.Author.Tests.{eq-eqb, ne-eqb}
-use lib.Dec.{T, ltb→lt}
-use lib.ListN.{length, getD, set, drop}
-use Rattle.model.specs.Searches.{isEmpty}
+use borrow.Author.Tests.{eq-eqb, ne-eqb, lt-ltb, le-ltb}
+use lib.Dec.{eqb, ltb→lt}
+use lib.ListN.{getD}
 use Rattle.model.specs.Plan as plan
 use Rattle.model.specs.Plan.{threads}
 use Rattle.model.specs.Records as records
-use Rattle.model.specs.Records.{Call, call, report, allowedCall}
+use Rattle.model.specs.Records.{Call, call, Switch}
 use Rattle.model.specs.State as state
 use Rattle.model.specs.Priorities.{greatestHold, current, chosen}
 use Rattle.model.specs.Calls.{tick, delay, relinquish, end, take, give, perform, switch}
-use Rattle.model.specs.Rules.{firstNo, broken}
-use Rattle.model.specs.Runs.{moved, broke, outcome, deliver, effect, step}
+use Rattle.model.specs.Rules.{broken}
+use Rattle.model.specs.Runs.{effect}
 use Rattle.model.proofs.Tests.{equal?}
 use Rattle.model.proofs.Laws.{chosen-is}
 use Rattle.plan.specs.View as plans
 use Rattle.plan.proofs.Laws.{threads-view}
-use Rattle.machine.specs.declared.Machine.{Machine}
-use Rattle.machine.specs.declared.calls.Called.{Called}
-use Rattle.machine.specs.declared.reports.Report as declared
-use Rattle.machine.specs.declared.reports.Reports.{Reports}
-use Rattle.machine.specs.declared.state.State.{State}
 use Rattle.lists.specs.Lists.{numbered}
 use Rattle.lists.proofs.Laws.{threadOf-numbered}
-use Rattle.machine.specs.Lists.{threadOf, reportOf, noReport, owed}
-use Rattle.machine.specs.View.{planOf, viewed, idle, view}
-use Rattle.machine.specs.Rules.{ruleNumber, reportRule}
-use Rattle.machine.specs.Contracts.{Formed, CreateAsked, Asked, SectionAsked, Ticks, reportsOf, Makes}
-use Rattle.machine.specs.Steps.{IsReport, Steps, Settles, stateOf, Answers}
-use Rattle.machine.proofs.Admitted.{asked, by}
-use Rattle.machine.proofs.Arrays.{stored-next}
-use Rattle.machine.proofs.Facts.{facts}
+use Rattle.machine.specs.declared.Machine.{Machine}
+use Rattle.machine.specs.declared.time.Tick.{Tick}
+use Rattle.machine.specs.declared.reports.Report.{Report}
+use Rattle.machine.specs.declared.reports.Reports.{Reports}
+use Rattle.machine.specs.declared.reporting.Reporting.{Reporting}
+use Rattle.machine.specs.Lists.{threadOf, reportOf, noReport, listed, owed}
+use Rattle.machine.specs.View.{planOf, viewed, idle, reportAt, shown}
+use Rattle.machine.specs.Rules.{ruleNumber}
+use Rattle.machine.specs.Contracts.{owing, passed}
+use Rattle.machine.specs.Calls.{Apart, Stands, Calls, Answers}
+use Rattle.machine.proofs.Admitted.{CreateAsked, Asked, SectionAsked, Ticks, asked, Makes, by}
+use Rattle.machine.proofs.Arrays.{listed-more, listed-alike}
+use Rattle.machine.proofs.Facts.{Formed, facts}
 use Rattle.machine.proofs.Room.{queued-known}
-use Rattle.machine.proofs.Quieted.{Quiet, quiet-tick}
-use Rattle.machine.proofs.InPlace.{Told, Passes}
-use Rattle.machine.proofs.Switched.{chosen-due, switch-none, switched, unswitched}
-use Rattle.machine.proofs.After.{After, created, ticked, delayed, relinquished, ended, taken, given, settles}
-use Rattle.machine.proofs.Owing.{drop-next, none-due, first-due, unowed, due-known}
-use Rattle.machine.proofs.Questions.{later, first-asked, none-asked, report-asked}
-use Rattle.machine.proofs.Unbroken.{none-broken}
+use Rattle.machine.proofs.Quieted.{Quiet, isDelay, call-quiet, quiet-tick}
+use Rattle.machine.proofs.Switched.{chosen-due, switch-none, Settles, switched, unswitched}
+use Rattle.machine.proofs.After.{After, before, created, ticked, delayed, relinquished, ended, taken, given, settles}
+use Rattle.machine.proofs.Owing.{none-due, unowed}
 use Rattle.machine.proofs.Asking.{tick-rule, creates, delays, ends, relinquishes, takes, gives}
+use Rattle.machine.proofs.Judged.{breaks, moves}
 
--- the outcome by the first No
-stepped : (p : plan.Plan) (st : state.State) (r : records.Record) {o : Option ℕ} → broken p st r ≡ o → step p st r ≡ outcome o (effect p r st)
-unfolding step
-stepped p st r e = ap (λ (o : Option ℕ). outcome o (effect p r st)) e
-
--- a number other than 0 is that of a broken rule
-some-rule : (o : Option ℕ) (rule : ℕ) → rule ≡ ruleNumber o → rule ≢ 0 → o ≡ some rule
-some-rule none rule e d = absurd (d e)
-some-rule (some n) rule e d = ap {B = Option ℕ} some (sym e)
-
--- a report given changes nothing that the chosen thread depends on
-chosen-given : (p : plan.Plan) (st : state.State) (r : records.Report) → chosen p (deliver r st) ≡ chosen p st
-unfolding chosen current greatestHold
-chosen-given p st r = refl
-
--- nor does a tick number
+-- a tick number changes nothing that the chosen thread depends on
 chosen-ticked : (p : plan.Plan) (n : ℕ) (st : state.State) → chosen p (state.setTickNumber n st) ≡ chosen p st
 unfolding chosen current greatestHold
 chosen-ticked p n st = refl
 
--- a record moves the machine where no rule is broken
-moves : (p : plan.Plan) (st : state.State) (r : records.Record) → ruleNumber (broken p st r) ≡ 0 → step p st r ≡ moved (effect p r st)
-moves p st r z = stepped p st r (none-broken p st r z)
+-- what is due of a machine that owes: the reports of the array, and behind them the Switch if there is one
+module _ (m : Machine) (rs : Reports) (rule who : ℕ) (quiet : Tick) where
+  abbrev owes : Reporting
+  owes = owing m rs rule who quiet
 
--- the report that breaks neither 29 nor 30 is the first due
-first-is : (d g : declared.Report) → reportRule d g ≡ 0 → d ≡ g
-first-is d g z = go (equal? (d .kind) (g .kind)) (equal? (d .who) (g .who))
-  where
-    go : (d .kind ≡ g .kind) ⊎ (d .kind ≢ g .kind) → (d .who ≡ g .who) ⊎ (d .who ≢ g .who) → d ≡ g
-    go (inl a) (inl b) = λ i. record { kind = a i; who = b i }
-    go (inl a) (inr b) = absurd (omega (arith, rw (eq-eqb (d .kind) (g .kind) a, ne-eqb (d .who) (g .who) b) at z))
-    go (inr a) b = absurd (omega (arith, rw (ne-eqb (d .kind) (g .kind) a) at z))
+  in-array : listed (reportAt owes) (rs .count) ≡ owed rs
+  in-array = listed-alike (λ i. reportOf (reportAt owes i)) (λ i. reportOf (getD (rs .items) i noReport)) (rs .count) (λ i h. ap (λ b. reportOf (cond b (getD (rs .items) i noReport) switch-to)) (lt-ltb i (rs .count) h))
+    where
+      switch-to : Report
+      switch-to = record { kind = 17; who = who }
 
-none-left : {A : Type 0} (n : ℕ) → drop {A = A} n [] ≡ []
-none-left zero = refl
-none-left (suc n) = refl
+  module _ (e : eqb rule 0 && not (eqb who (m .reported)) ≡ false) where
+    none-shown : shown owes ≡ viewed m (owed rs)
+    none-shown = ap (λ b. viewed m (listed (reportAt owes) (cond b (rs .count + 1) (rs .count)))) e ∙ ap (viewed m) in-array
 
-module _ (c : Called) (given' : ℕ) {ceilings : List ℕ} {who : ℕ} {r : records.Record} (steps : Steps (stateOf c given') ceilings who r) where
-  -- a broken rule
-  breaks : (after : State) (rule : ℕ) → after .machine .plan ≡ c .machine .plan → view after ≡ view (stateOf c given') → rule ≡ ruleNumber (broken (planOf (c .machine)) (view (stateOf c given')) r) → rule ≢ 0
-      → Answers after who rule (stateOf c given') r
-  breaks after rule q v e d =
-      let p = planOf (c .machine) in
-      let st = view (stateOf c given') in
-      record {
-        outcome = ap (λ b. cond b (moved (view after)) (broke rule)) (ne-eqb rule 0 d) ∙ sym (stepped p st r (some-rule (broken p st r) rule e d));
-        plan' = q;
-        chosen' = steps .chosen' ∙ ap (λ (x : state.State). numbered (chosen p x)) (sym v);
-        kept = λ k. v;
-      }
+    none-apart : Apart owes
+    none-apart = record { apart = inl (ap (λ b. cond b (rs .count + 1) (rs .count)) e) }
 
-  -- no broken rule
-  moved-on : (after : State) (who' : ℕ) → after .machine .plan ≡ c .machine .plan → ruleNumber (broken (planOf (c .machine)) (view (stateOf c given')) r) ≡ 0
-      → view after ≡ effect (planOf (c .machine)) r (view (stateOf c given')) → who' ≡ numbered (chosen (planOf (c .machine)) (view after))
-      → Answers after who' 0 (stateOf c given') r
-  moved-on after who' q z v k = record { outcome = ap moved v ∙ sym (moves (planOf (c .machine)) (view (stateOf c given')) r z); plan' = q; chosen' = k; kept = λ d. absurd (d refl) }
+  module _ (e : eqb rule 0 && not (eqb who (m .reported)) ≡ true) where
+    last-shown : shown owes ≡ viewed m (owed rs ++ (Switch (threadOf who) ∷ []))
+    last-shown =
+        ap (λ b. viewed m (listed (reportAt owes) (cond b (rs .count + 1) (rs .count)))) e
+        ∙ ap (viewed m)
+        (listed-more (λ i. reportOf (reportAt owes i)) (rs .count)
+        ∙ ap₂ (λ (l : List records.Report) (b : Bool). l ++ (reportOf (cond b (getD (rs .items) (rs .count) noReport) (record { kind = 17; who = who })) ∷ [])) in-array (le-ltb (rs .count) (rs .count) (omega arith)))
 
-  -- something is due
+    last-apart : rs .count < 17 → Apart owes
+    last-apart h = record { apart = inr (ap (λ b. cond b (rs .count + 1) (rs .count)) e, h) }
 
-  module _ (h : given' < c .count) where
-    pub call-due : (k : Call) → r ≡ call k → Answers (stateOf c given') who 21 (stateOf c given') r
-    call-due k e =
-        let p = planOf (c .machine) in
-        let st = view (stateOf c given') in
-        breaks (stateOf c given') 21 refl refl
-        (sym (ap ruleNumber
-        (ap (broken p st) e
-        ∙ first-asked p st k
-        ∙ ap (λ (l : List records.Report). cond (isEmpty l) (firstNo (later p st k)) (some 21)) (first-due (reportsOf c) given' h))))
-        (λ z. omega arith)
+-- what each call asks of the machine, with nothing due
+module _ {c : Reporting} {ceilings : List ℕ} where
+  pub comes-idle : {k : Call} → Calls c ceilings k → shown c ≡ idle (c .machine)
+  comes-idle a = ap (viewed (c .machine)) (none-due (reportAt c) (c .due) (c .given) (a .undue))
 
-    module _ (g : declared.Report) (kind : IsReport g) (e : r ≡ report (reportOf g)) where
-      compared : reportRule (getD (c .reports) given' noReport) g ≡ ruleNumber (broken (planOf (c .machine)) (view (stateOf c given')) r)
-      compared =
-          let p = planOf (c .machine) in
-          let st = view (stateOf c given') in
-          report-asked p st (getD (c .reports) given' noReport) g (drop (suc given') (owed (reportsOf c))) (due-known (stateOf c given') (steps .formed) given' (omega arith) h) kind (first-due (reportsOf c) given' h)
-          ∙ ap (λ (x : records.Record). ruleNumber (broken p st x)) (sym e)
+  formed-idle : {k : Call} → Calls c ceilings k → Formed (c .machine)
+  formed-idle a = unowed (c .machine) (reportAt c) (c .due) (c .given) (a .asks .formed')
 
-      pub report-breaks : {rule : ℕ} → rule ≡ reportRule (getD (c .reports) given' noReport) g → rule ≢ 0 → Answers (stateOf c given') who rule (stateOf c given') r
-      report-breaks {rule} q d = breaks (stateOf c given') rule refl refl (q ∙ compared) d
+  pub create-asked : {t : ℕ} → Calls c ceilings (records.Create t) → CreateAsked (c .machine) t
+  create-asked {t} a = record { formed = formed-idle a; known = omega (arith, ltb→lt t (threads (planOf (c .machine))) (a .asks .allowed'), threads-view (c .machine .plan)) }
 
-      pub report-given : {rule : ℕ} → rule ≡ reportRule (getD (c .reports) given' noReport) g → rule ≡ 0 → (c' : Called) → Told c' c (getD (c .reports) given' noReport) → Answers (stateOf c' (given' + 1)) who 0 (stateOf c given') r
-      report-given {rule} q z c' t =
-          moved-on (stateOf c' (given' + 1)) who (t .plan') (sym compared ∙ sym q ∙ z) seen
-          (steps .chosen' ∙ ap numbered (sym (chosen-given p (view (stateOf c given')) (reportOf g)) ∙ ap (chosen p) (sym delivered)))
-        where
-          p : plan.Plan
-          p = planOf (c .machine)
+  pub caller-asked : {k : Call} → Calls c ceilings k → Asked (c .machine) (c .chosen)
+  caller-asked a = record { formed = formed-idle a; caller' = a .asks .stands .chosen' ∙ ap (λ (x : state.State). numbered (chosen (planOf (c .machine)) x)) (comes-idle a) }
 
-          d : declared.Report
-          d = getD (c .reports) given' noReport
+  pub take-asked : {n : ℕ} → Calls c ceilings (records.Take n) → SectionAsked (c .machine) (c .chosen) n
+  take-asked {n} a = record { asked = caller-asked a; known = ltb→lt n (c .machine .plan .sections) (a .asks .allowed') }
 
-          delivered : view (stateOf c' (given' + 1)) ≡ deliver (reportOf g) (view (stateOf c given'))
-          delivered =
-              ap (λ (rs : Reports). viewed (c' .machine) (drop (given' + 1) (owed rs))) (t .reports')
-              ∙ t .seen (drop (given' + 1) (owed (reportsOf c)))
-              ∙ ap (λ (l : List records.Report). state.setReported (state.switchedTo (threadOf (c .machine .reported)) (reportOf d)) (viewed (c .machine) l)) (drop-next given' (owed (reportsOf c)))
-              ∙ ap (λ (x : declared.Report). deliver (reportOf x) (view (stateOf c given'))) (first-is d g (sym q ∙ z))
+  pub give-asked : {n : ℕ} → Calls c ceilings (records.Give n) → SectionAsked (c .machine) (c .chosen) n
+  give-asked {n} a = record { asked = caller-asked a; known = ltb→lt n (c .machine .plan .sections) (a .asks .allowed') }
 
-          seen : view (stateOf c' (given' + 1)) ≡ effect p r (view (stateOf c given'))
-          seen = delivered ∙ ap (λ (x : records.Record). effect p x (view (stateOf c given'))) (sym e)
+  pub tick-asked : Calls c ceilings records.Tick → Ticks (c .machine)
+  tick-asked a = record { formed = formed-idle a; room = a .asks .tick' refl }
 
-  -- nothing is due
+  -- a call that breaks no rule leaves enough to go on from
+  leaves : (k : Call) → Calls c ceilings k → asked (c .machine) k ≡ 0 → After (c .machine .plan .threads) (perform (planOf (c .machine)) k (idle (c .machine)))
+  leaves (records.Create t) a z = created (creates (create-asked a) z)
+  leaves (records.Delay n) a z = let w = delays (caller-asked a) n z in subst (After (c .machine .plan .threads)) (sym (by w (λ x. delay x n))) (delayed w n)
+  leaves records.Relinquish a z = let w = relinquishes (caller-asked a) z in subst (After (c .machine .plan .threads)) (sym (by w (relinquish (planOf (c .machine))))) (relinquished w)
+  leaves records.End a z = let w = ends (caller-asked a) z in subst (After (c .machine .plan .threads)) (sym (by w end)) (ended w)
+  leaves (records.Take n) a z = let w = takes (take-asked a) z in subst (After (c .machine .plan .threads)) (sym (by (w .runs) (λ x. take (planOf (c .machine)) x n))) (taken w)
+  leaves (records.Give n) a z = let w = gives (give-asked a) z in subst (After (c .machine .plan .threads)) (sym (by (w .runs) (λ x. give (planOf (c .machine)) x n))) (given w)
+  leaves records.Tick a z = ticked (tick-asked a)
 
-  module _ (h : c .count ≤ given') where
-    comes-idle : view (stateOf c given') ≡ idle (c .machine)
-    comes-idle = ap (viewed (c .machine)) (none-due (reportsOf c) given' h)
+  asked-here : {k : Call} → Calls c ceilings k → ruleNumber (broken (planOf (c .machine)) (shown c) (call k)) ≡ asked (c .machine) k
+  asked-here {k} a = ap (λ (st : state.State). ruleNumber (broken (planOf (c .machine)) st (call k))) (comes-idle a)
 
-    pub report-undue : (g : records.Report) → r ≡ report g → Answers (stateOf c given') who 28 (stateOf c given') r
-    report-undue g e =
-        let p = planOf (c .machine) in
-        let st = view (stateOf c given') in
-        breaks (stateOf c given') 28 refl refl (none-asked p st g (none-due (reportsOf c) given' h) ∙ ap (λ (x : records.Record). ruleNumber (broken p st x)) (sym e)) (λ z. omega arith)
+module _ {c : Reporting} {ceilings : List ℕ} {k : Call} (a : Calls c ceilings k) {left : Machine} {rs : Reports} {rule : ℕ} (made : Makes left rs rule (c .machine) k) where
+  -- what the call leaves before its Switch is enough to find the chosen thread
+  pub call-settles : Settles left rs ceilings
+  call-settles = go (equal? rule 0)
+    where
+      go : (rule ≡ 0) ⊎ (rule ≢ 0) → Settles left rs ceilings
+      go (inl z) = settles (facts (formed-idle a)) (record { plan' = made .plan'; seen = made .made z }) (leaves k a (sym (made .rule') ∙ z)) ceilings (a .asks .ceilings')
+      go (inr d) = settles (facts (formed-idle a)) (record { plan' = made .plan'; seen = made .kept d }) (before (facts (formed-idle a))) ceilings (a .asks .ceilings')
 
-    formed' : Formed (c .machine)
-    formed' = unowed (stateOf c given') (steps .formed)
+  module _ {who : ℕ} {quiet : Tick} (is : who ≡ numbered (chosen (planOf left) (idle left))) (still : Quiet left (quiet .0)) where
+    abbrev after : Reporting
+    after = owing left rs rule who quiet
 
-    operand : {k : Call} → r ≡ call k → T (allowedCall (planOf (c .machine)) k)
-    operand e = subst (λ (x : records.Record). T (records.allowed (planOf (c .machine)) x)) e (steps .allowed)
+    stands : Apart after → Stands after
+    stands p = record { chosen' = is ∙ ap numbered (sym (chosen-due (planOf left) left (shown after .due))); apart' = p; quiet' = still }
 
-    -- what each call asks
+    -- it moves the machine, where it stands for what the model's call and its Switch make
+    moved-by : rule ≡ 0 → shown after ≡ switch (planOf left) (viewed left (owed rs)) → Apart after → Answers after c (call k)
+    moved-by z v p =
+        moves c after (made .plan') (asked-here a ∙ sym (made .rule') ∙ z) z
+        (v
+        ∙ ap (λ (q : plan.Plan). switch q (viewed left (owed rs))) (ap plans.view (made .plan'))
+        ∙ ap (switch (planOf (c .machine))) (made .made z)
+        ∙ ap (λ (st : state.State). effect (planOf (c .machine)) (call k) st) (sym (comes-idle a)))
+        (stands p)
 
-    pub create-asked : {t : ℕ} → r ≡ call (records.Create t) → CreateAsked (c .machine) t
-    create-asked {t} e = record { formed = formed'; known = omega (arith, ltb→lt t (threads (planOf (c .machine))) (operand e), threads-view (c .machine .plan)) }
-
-    pub caller-asked : Asked (c .machine) who
-    caller-asked = record { formed = formed'; caller' = steps .chosen' ∙ ap (λ (x : state.State). numbered (chosen (planOf (c .machine)) x)) comes-idle }
-
-    pub take-asked : {n : ℕ} → r ≡ call (records.Take n) → SectionAsked (c .machine) who n
-    take-asked {n} e = record { asked = caller-asked; known = ltb→lt n (c .machine .plan .sections) (operand e) }
-
-    pub give-asked : {n : ℕ} → r ≡ call (records.Give n) → SectionAsked (c .machine) who n
-    give-asked {n} e = record { asked = caller-asked; known = ltb→lt n (c .machine .plan .sections) (operand e) }
-
-    pub tick-asked : r ≡ call records.Tick → Ticks (c .machine)
-    tick-asked e = record { formed = formed'; room = steps .tick e }
-
-    -- a call that breaks no rule leaves enough to go on from
-    leaves : (k : Call) → r ≡ call k → asked (c .machine) k ≡ 0 → After (c .machine .plan .threads) (perform (planOf (c .machine)) k (idle (c .machine)))
-    leaves (records.Create t) e z = created (creates (create-asked e) z)
-    leaves (records.Delay n) e z = let w = delays caller-asked n z in subst (After (c .machine .plan .threads)) (sym (by w (λ x. delay x n))) (delayed w n)
-    leaves records.Relinquish e z = let w = relinquishes caller-asked z in subst (After (c .machine .plan .threads)) (sym (by w (relinquish (planOf (c .machine))))) (relinquished w)
-    leaves records.End e z = let w = ends caller-asked z in subst (After (c .machine .plan .threads)) (sym (by w end)) (ended w)
-    leaves (records.Take n) e z = let w = takes (take-asked e) z in subst (After (c .machine .plan .threads)) (sym (by (w .runs) (λ x. take (planOf (c .machine)) x n))) (taken w)
-    leaves (records.Give n) e z = let w = gives (give-asked e) z in subst (After (c .machine .plan .threads)) (sym (by (w .runs) (λ x. give (planOf (c .machine)) x n))) (given w)
-    leaves records.Tick e z = ticked (tick-asked e)
-
-    asked-here : (k : Call) → r ≡ call k → ruleNumber (broken (planOf (c .machine)) (view (stateOf c given')) r) ≡ asked (c .machine) k
-    asked-here k e =
-        ap (λ (x : records.Record). ruleNumber (broken (planOf (c .machine)) (view (stateOf c given')) x)) e
-        ∙ ap (λ (st : state.State). ruleNumber (broken (planOf (c .machine)) st (call k))) comes-idle
-
-    -- a Tick that wakes nobody, where the chosen thread is the one reported
-    pub tick-stays : (c' : Called) → Passes c' c → r ≡ call records.Tick → tick (idle (c .machine)) ≡ state.setTickNumber (c .machine .tick .0 + 1) (idle (c .machine)) → who ≡ c .machine .reported
-        → Answers (stateOf c' given') who 0 (stateOf c given') r
-    tick-stays c' t e stays is =
-        moved-on (stateOf c' given') who (t .plan') (asked-here records.Tick e ∙ sym (tick-rule m))
-        (seen ∙ sym unswitched-tick ∙ ap (λ (st : state.State). switch p (tick st)) (sym comes-idle) ∙ ap (λ (x : records.Record). effect p x (view (stateOf c given'))) (sym e))
-        (caller-asked .caller' ∙ ap numbered (sym (ap (chosen p) seen ∙ chosen-ticked p (m .tick .0 + 1) (idle m))))
+    -- the call with its Switch, with none, or barred
+    pub call-answers : Answers after c (call k)
+    call-answers = go (equal? rule 0) (equal? who (left .reported))
       where
-        m : Machine
-        m = c .machine
+        go : (rule ≡ 0) ⊎ (rule ≢ 0) → (who ≡ left .reported) ⊎ (who ≢ left .reported) → Answers after c (call k)
+        go (inl z) (inl q) =
+            let e : eqb rule 0 && not (eqb who (left .reported)) ≡ false = rw (eq-eqb rule 0 z, eq-eqb who (left .reported) q) in
+            moved-by z (none-shown left rs rule who quiet e ∙ unswitched call-settles who is q) (none-apart left rs rule who quiet e)
+        go (inl z) (inr d) =
+            let e : eqb rule 0 && not (eqb who (left .reported)) ≡ true = rw (eq-eqb rule 0 z, ne-eqb who (left .reported) d) in
+            moved-by z (last-shown left rs rule who quiet e ∙ switched call-settles who is d) (last-apart left rs rule who quiet e (call-settles .room))
+        go (inr d) q =
+            let e : eqb rule 0 && not (eqb who (left .reported)) ≡ false = rw (ne-eqb rule 0 d) in
+            breaks c after (made .plan') (none-shown left rs rule who quiet e ∙ made .kept d ∙ sym (comes-idle a)) (made .rule' ∙ sym (asked-here a)) d (stands (none-apart left rs rule who quiet e))
 
-        p : plan.Plan
-        p = planOf m
+  -- every call but a Delay keeps the tick number before which nobody wakes
+  pub quiet-answers : isDelay k ≡ false → {who : ℕ} → who ≡ numbered (chosen (planOf left) (idle left)) → Answers (owing left rs rule who (c .quiet)) c (call k)
+  quiet-answers d is = call-answers is (call-quiet made d (a .asks .stands .quiet'))
 
-        later-tick : state.State
-        later-tick = state.setTickNumber (m .tick .0 + 1) (idle m)
+-- a Tick that wakes nobody, where the chosen thread is the one reported
+module _ {c : Reporting} {ceilings : List ℕ} (a : Calls c ceilings records.Tick) (z : c .rule ≡ 0) (below : c .machine .tick .0 + 1 < c .quiet .0) (is : c .chosen ≡ c .machine .reported) where
+  abbrev m : Machine
+  m = c .machine
 
-        seen : view (stateOf c' given') ≡ later-tick
-        seen = ap (viewed (c' .machine)) (ap (λ (rs : Reports). drop given' (owed rs)) (t .reports') ∙ none-due (reportsOf c) given' h) ∙ t .seen []
+  abbrev later-tick : state.State
+  later-tick = state.setTickNumber (m .tick .0 + 1) (idle m)
 
-        reported-chosen : threadOf (m .reported) ≡ chosen p (idle m)
-        reported-chosen =
-            ap threadOf (sym is ∙ caller-asked .caller')
-            ∙ threadOf-numbered (chosen p (idle m)) (λ x k. let f = facts formed' in omega (arith, queued-known f x (chosen-is p (idle m) x k .0), f .fits .threads))
+  passed-shown : shown (passed c) ≡ later-tick
+  passed-shown = ap (viewed (passed c .machine)) (none-due (reportAt c) (c .due) (c .given) (a .undue))
 
-        unswitched-tick : switch p (tick (idle m)) ≡ later-tick
-        unswitched-tick = ap (switch p) stays ∙ switch-none p later-tick (reported-chosen ∙ sym (chosen-ticked p (m .tick .0 + 1) (idle m)))
+  reported-chosen : threadOf (m .reported) ≡ chosen (planOf m) (idle m)
+  reported-chosen =
+      ap threadOf (sym is ∙ caller-asked a .caller')
+      ∙ threadOf-numbered (chosen (planOf m) (idle m)) (λ x k. let f = facts (formed-idle a) in omega (arith, queued-known f x (chosen-is (planOf m) (idle m) x k .0), f .fits .threads))
 
-    -- so it is where nobody wakes before a later tick number
-    pub tick-passes : (c' : Called) → Passes c' c → r ≡ call records.Tick → {until : ℕ} → Quiet (c .machine .plan .threads) (c .machine .slots) (c .machine .wakes) until → c .machine .tick .0 + 1 < until → who ≡ c .machine .reported
-        → Answers (stateOf c' given') who 0 (stateOf c given') r
-    tick-passes c' t e {until} quiet below is = tick-stays c' t e (quiet-tick (c .machine) until quiet below) is
+  unswitched-tick : switch (planOf m) (tick (idle m)) ≡ later-tick
+  unswitched-tick =
+      ap (switch (planOf m)) (quiet-tick m (c .quiet .0) (a .asks .stands .quiet') below)
+      ∙ switch-none (planOf m) later-tick (reported-chosen ∙ sym (chosen-ticked (planOf m) (m .tick .0 + 1) (idle m)))
 
-    module _ (k : Call) (e : r ≡ call k) (c' : Called) (m : Makes c' (c .machine) k) where
-      pub call-breaks : c' .rule ≢ 0 → Answers (stateOf c' given') who (c' .rule) (stateOf c given') r
-      call-breaks d =
-          let same = m .kept d in
-          let none' = ap (λ (st : state.State). st .due) same in
-          breaks (stateOf c' given') (c' .rule) (m .plan')
-          (ap (viewed (c' .machine)) (ap (drop given') none' ∙ none-left given' ∙ sym none') ∙ same ∙ sym comes-idle)
-          (m .rule' ∙ sym (asked-here k e)) d
-
-      module _ (z : c' .rule ≡ 0) where
-        pub call-settles : Settles c' ceilings
-        call-settles =
-            settles c' (facts formed') (record { plan' = m .plan'; seen = m .made z }) (leaves k e (sym (m .rule') ∙ z)) ceilings (steps .ceilings')
-
-        module _ (who' : ℕ) (is : who' ≡ numbered (chosen (planOf (c' .machine)) (idle (c' .machine)))) where
-          -- with its Switch, or with none
-          settled : (rs : Reports) → viewed (c' .machine) (owed rs) ≡ switch (planOf (c' .machine)) (viewed (c' .machine) (owed (reportsOf c')))
-              → Answers (record { machine = c' .machine; due = rs; given = 0 }) who' 0 (stateOf c given') r
-          settled rs v =
-              let p = planOf (c .machine) in
-              let same = ap plans.view (m .plan') in
-              moved-on (record { machine = c' .machine; due = rs; given = 0 }) who' (m .plan') (asked-here k e ∙ sym (m .rule') ∙ z)
-              (v
-              ∙ ap (λ (q : plan.Plan). switch q (viewed (c' .machine) (owed (reportsOf c')))) same
-              ∙ ap (switch p) (m .made z)
-              ∙ ap (λ (st : state.State). switch p (perform p k st)) (sym comes-idle)
-              ∙ ap (λ (x : records.Record). effect p x (view (stateOf c given'))) (sym e))
-              (is ∙ ap numbered (ap (λ (q : plan.Plan). chosen q (idle (c' .machine))) same ∙ sym (chosen-due p (c' .machine) (owed rs))))
-
-          pub call-unswitched : who' ≡ c' .machine .reported → Answers (stateOf c' 0) who' 0 (stateOf c given') r
-          call-unswitched q = settled (reportsOf c') (unswitched c' call-settles who' is q)
-
-          pub call-switched : who' ≢ c' .machine .reported → length (c' .reports) ≡ 17
-              → Answers (record { machine = c' .machine; due = record { items = set (c' .reports) (c' .count) (record { kind = 17; who = who' }); count = c' .count + 1 }; given = 0 }) who' 0 (stateOf c given') r
-          call-switched d size =
-              let rs : Reports = record { items = set (c' .reports) (c' .count) (record { kind = 17; who = who' }); count = c' .count + 1 } in
-              settled rs (switched c' call-settles who' is d rs (stored-next reportOf noReport (record { kind = 17; who = who' }) (c' .reports) (c' .count) (omega (arith, call-settles .room))))
+  pub passed-answers : Answers (passed c) c (call records.Tick)
+  passed-answers =
+      moves c (passed c) refl (asked-here a ∙ sym (tick-rule m)) z
+      (passed-shown ∙ sym unswitched-tick ∙ ap (λ (st : state.State). effect (planOf m) (call records.Tick) st) (sym (comes-idle a)))
+      (record {
+        chosen' = caller-asked a .caller' ∙ ap numbered (sym (ap (chosen (planOf m)) passed-shown ∙ chosen-ticked (planOf m) (m .tick .0 + 1) (idle m)));
+        apart' = record { apart = a .asks .stands .apart' .apart };
+        quiet' = a .asks .stands .quiet';
+      })

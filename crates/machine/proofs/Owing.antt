@@ -1,4 +1,4 @@
--- What is due: the reports of the array behind the ones given; and what is known of it in a well-formed state.
+-- What is due: the reports behind the ones given, by their places; and what is known of it in a well-formed state.
 use mathlib.Core.Path.{_≡_, refl, ap, _∙_}
 use mathlib.Core.Logic.{_⊎_, inl, inr}
 use mathlib.Core.Bool.{Bool, true, not, _&&_}
@@ -6,23 +6,23 @@ use mathlib.Core.List.{List, [], _∷_, tail, List·Memᴰ as Mem, List·Memᴰ�
 use Prim.Native.Nat.{ℕ, zero, suc, _+_, _-_, _≤_, _<_}
 use native.Mathlib.Numerals.{add-one}
 use native.Mathlib.Omega.{arith}
-use lib.Dec.{T, leb, ltb, leb→le, le→leb, ltb→lt, nleb→lt, nltb→le}
+use lib.Dec.{T, leb, ltb, le→leb, ltb→lt, nltb→le}
 use lib.ListN.{length, getD, drop, drop-of-length-le, List·getD-eq-default}
 use lib.Seq.{drop-cons, drop-drop}
 use Rattle.model.specs.Plan.{threads, validPlan}
 use Rattle.model.specs.Formed.{numbersInRange, heldOnce, allStandOnce, dueInRange, formed}
 use Rattle.model.proofs.Tests.{split, and-left, and-both}
 use Rattle.model.proofs.Laws.{well-formed}
-use Rattle.model.proofs.Loops.{listed}
+use Rattle.model.proofs.Loops.{listed as entry-listed, length-listed}
 use Rattle.plan.proofs.Laws.{threads-view}
-use Rattle.machine.specs.declared.reports.Reports.{Reports}
+use Rattle.machine.specs.declared.Machine.{Machine}
+use Rattle.machine.specs.declared.reports.Report.{Report}
 use Rattle.machine.specs.declared.state.State.{State}
-use Rattle.machine.specs.Lists.{reportOf, noReport, owed}
-use Rattle.machine.specs.View.{planOf, view}
-use Rattle.machine.specs.Contracts.{Formed}
-use Rattle.machine.specs.Steps.{IsReport}
-use Rattle.machine.proofs.Facts.{facts}
-use Rattle.machine.proofs.Views.{length-owed, sized}
+use Rattle.machine.specs.Lists.{reportOf, noReport, listed}
+use Rattle.machine.specs.View.{planOf, viewed, view}
+use Rattle.machine.specs.Contracts.{IsReport}
+use Rattle.machine.proofs.Facts.{Formed, facts}
+use Rattle.machine.proofs.Views.{sized}
 use Rattle.machine.proofs.ReportKinds.{is-report}
 
 -- one more is given: the first is due no longer
@@ -40,54 +40,61 @@ in-drop zero l m = m
 in-drop (suc n) [] m = m
 in-drop (suc n) (b ∷ l) m = there (in-drop n l m)
 
-module _ (rs : Reports) (given : ℕ) where
+module _ (at : ℕ → Report) (n given : ℕ) where
+  counted : length (listed at n) ≡ n
+  counted = length-listed (λ i. reportOf (at i)) n
+
   -- nothing is due where all are given
-  pub none-due : rs .count ≤ given → drop given (owed rs) ≡ []
-  none-due h = drop-of-length-le (owed rs) {i = given} (omega (arith, length-owed rs))
+  pub none-due : n ≤ given → drop given (listed at n) ≡ []
+  none-due h = drop-of-length-le (listed at n) {i = given} (omega (arith, counted))
 
   -- otherwise the one behind those given is due first
-  pub first-due : given < rs .count → drop given (owed rs) ≡ reportOf (getD (rs .items) given noReport) ∷ drop (suc given) (owed rs)
+  pub first-due : given < n → drop given (listed at n) ≡ reportOf (at given) ∷ drop (suc given) (listed at n)
   first-due h =
-      drop-cons (owed rs) given (reportOf noReport) (omega (arith, length-owed rs))
-      ∙ ap (λ r. r ∷ drop (suc given) (owed rs)) (listed (λ i. reportOf (getD (rs .items) i noReport)) (rs .count) given (reportOf noReport) h)
+      drop-cons (listed at n) given (reportOf noReport) (omega (arith, counted))
+      ∙ ap (λ r. r ∷ drop (suc given) (listed at n)) (entry-listed (λ i. reportOf (at i)) n given (reportOf noReport) h)
 
 -- and so is every one up to the count
-in-due : (rs : Reports) (given i : ℕ) → given ≤ i → i < rs .count → Mem (reportOf (getD (rs .items) i noReport)) (drop given (owed rs))
-in-due rs given i a b =
+in-due : (at : ℕ → Report) (n given i : ℕ) → given ≤ i → i < n → Mem (reportOf (at i)) (drop given (listed at n))
+in-due at n given i a b =
     let z : given + (i - given) ≡ i = omega arith in
-    in-drop (i - given) (drop given (owed rs)) (rw (drop-drop (i - given) given (owed rs), z, first-due rs i b) (here refl))
+    in-drop (i - given) (drop given (listed at n)) (rw (drop-drop (i - given) given (listed at n), z, first-due at n i b) (here refl))
 
-module _ (s : State) (passes : T (formed (planOf (s .machine)) (view s))) where
+module _ (m : Machine) (at : ℕ → Report) (n given : ℕ) (passes : T (formed (planOf m) (viewed m (drop given (listed at n))))) where
   -- the machine is well formed with nothing due as well
-  pub unowed : Formed (s .machine)
+  pub unowed : Formed m
   unfolding formed
   unowed =
-      let p = planOf (s .machine) in
-      let rest : Bool = validPlan p && numbersInRange p (view s) && heldOnce (p .sections) (view s .holds) && allStandOnce p (view s) in
+      let p = planOf m in
+      let st = viewed m (drop given (listed at n)) in
+      let rest : Bool = validPlan p && numbersInRange p st && heldOnce (p .sections) (st .holds) && allStandOnce p st in
       let none : T (dueInRange p []) = and-both (leb 0 (threads p + 1)) true (le→leb 0 (threads p + 1) (omega arith)) tt in
-      record { passes = and-both rest (dueInRange p []) (and-left rest (dueInRange p (view s .due)) passes) none }
-
-  -- a chosen thread is one of the plan's
+      record { passes = and-both rest (dueInRange p []) (and-left rest (dueInRange p (st .due)) passes) none }
 
   -- each report due is of one of document 01's kinds
-  pub due-known : (i : ℕ) → s .given ≤ i → i < s .due .count → IsReport (getD (s .due .items) i noReport)
+  pub due-known : (i : ℕ) → given ≤ i → i < n → IsReport (at i)
   due-known i a b =
-      let m = s .machine in
-      let d = getD (s .due .items) i noReport in
-      let w = well-formed (planOf m) (view s) (sized m) passes in
-      is-report d (planOf m) (omega (arith, threads-view (m .plan), facts unowed .fits .threads)) (w .known (reportOf d) (in-due (s .due) (s .given) i a b))
+      let w = well-formed (planOf m) (viewed m (drop given (listed at n))) (sized m) passes in
+      is-report (at i) (planOf m) (omega (arith, threads-view (m .plan), facts unowed .fits .threads)) (w .known (reportOf (at i)) (in-due at n given i a b))
 
-  -- so those due are in the array: past its end there is none
+-- past the end of an array there is no report
+pub within : (items : List Report) (i : ℕ) → length items ≡ 17 → IsReport (getD items i noReport) → i < 17
+within items i size k = go (split (ltb i 17))
+  where
+    go : T (ltb i 17) ⊎ T (not (ltb i 17)) → i < 17
+    go (inl u) = ltb→lt i 17 u
+    go (inr u) =
+        let past : getD items i noReport ≡ noReport = List·getD-eq-default items noReport (omega (arith, nltb→le i 17 u)) in
+        let z : IsReport noReport = rw past at k in
+        absurd (omega (arith, z .least))
+
+module _ (s : State) (passes : T (formed (planOf (s .machine)) (view s))) where
+  abbrev at : ℕ → Report
+  at i = getD (s .due .items) i noReport
+
+  -- those due are in the array
   pub due-fits : length (s .due .items) ≡ 17 → s .given < s .due .count → s .due .count ≤ 17
-  due-fits size h = go (split (leb (s .due .count) 17))
-    where
-      go : T (leb (s .due .count) 17) ⊎ T (not (leb (s .due .count) 17)) → s .due .count ≤ 17
-      go (inl u) = leb→le (s .due .count) 17 u
-      go (inr u) =
-          let k = nleb→lt (s .due .count) 17 u in
-          let past : getD (s .due .items) (s .due .count - 1) noReport ≡ noReport = List·getD-eq-default (s .due .items) noReport (omega arith) in
-          let z : IsReport noReport = rw past at (due-known (s .due .count - 1) (omega arith) (omega arith)) in
-          absurd (omega (arith, z .least))
+  due-fits size h = omega (arith, within (s .due .items) (s .due .count - 1) size (due-known (s .machine) at (s .due .count) (s .given) passes (s .due .count - 1) (omega arith) (omega arith)))
 
   -- something is due exactly where the count is above those given
   pub owing : 0 < length (view s .due) → s .given < s .due .count
@@ -95,4 +102,4 @@ module _ (s : State) (passes : T (formed (planOf (s .machine)) (view s))) where
     where
       go : T (ltb (s .given) (s .due .count)) ⊎ T (not (ltb (s .given) (s .due .count))) → s .given < s .due .count
       go (inl t) = ltb→lt (s .given) (s .due .count) t
-      go (inr t) = absurd (omega (arith, h, ap length (none-due (s .due) (s .given) (nltb→le (s .given) (s .due .count) t))))
+      go (inr t) = absurd (omega (arith, h, ap length (none-due at (s .due .count) (s .given) (nltb→le (s .given) (s .due .count) t))))

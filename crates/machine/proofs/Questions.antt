@@ -6,7 +6,7 @@ use mathlib.Core.List.{List, [], _∷_}
 use mathlib.Core.Option.{Option, none, some}
 use Prim.Native.Nat.{ℕ, _<_}
 use native.Mathlib.Omega.{arith}
-use borrow.Author.Tests.{ne-eqb}
+use borrow.Author.Tests.{ne-eqb, le-ltb}
 use lib.Dec.{eqb}
 use lib.ListN.{getD}
 use Rattle.model.specs.Searches.{same}
@@ -26,9 +26,10 @@ use Rattle.lists.specs.Words.{nibble}
 use Rattle.lists.specs.Lists.{numbered, held}
 use Rattle.lists.proofs.Laws.{number-is}
 use Rattle.machine.specs.Lists.{reportOf}
-use Rattle.machine.specs.View.{conditionsOf}
-use Rattle.machine.specs.Rules.{ruleNumber, runRule, freeRule, createRule, takeRule, giveRule, reportRule}
-use Rattle.machine.specs.Steps.{IsReport}
+use Rattle.machine.specs.declared.time.Tick.{Tick}
+use Rattle.machine.specs.View.{wakeOf, conditionsOf}
+use Rattle.machine.specs.Rules.{ruleNumber, runRule, freeRule, createRule, takeRule, giveRule, dueRule}
+use Rattle.machine.specs.Contracts.{IsReport}
 use Rattle.machine.proofs.Conditions.{dormant-state}
 use Rattle.machine.proofs.Views.{condition-at}
 use Rattle.machine.proofs.ReportKinds.{kind-is, same-named}
@@ -57,10 +58,10 @@ number-of-two true b m n = number-of b n
 number-of-two false b m n = refl
 
 -- 23, of a slot that is in use
-pub create-asked : (n : ℕ) (slots : Slots) (wakes : List ℕ) (t : ℕ) → t < n → createRule slots t ≡ number (23 asks isDormant (getD (conditionsOf n slots wakes) t state.dormant) ∷ [])
+pub create-asked : (n : ℕ) (slots : Slots) (wakes : List Tick) (t : ℕ) → t < n → createRule slots t ≡ number (23 asks isDormant (getD (conditionsOf n slots wakes) t state.dormant) ∷ [])
 create-asked n slots wakes t h =
     number-of (eqb (nibble (slots .states) t) 0) 23
-    ∙ ap (λ b. ruleNumber (cond b none (some 23))) (sym (dormant-state (nibble (slots .states) t) (nibble (slots .wants) t) (getD wakes t 0)))
+    ∙ ap (λ b. ruleNumber (cond b none (some 23))) (sym (dormant-state (nibble (slots .states) t) (nibble (slots .wants) t) (wakeOf wakes t)))
     ∙ ap (λ c. ruleNumber (cond (isDormant c) none (some 23))) (sym (condition-at n slots wakes t h))
 
 -- 22, and what is asked of the caller behind it
@@ -112,11 +113,11 @@ module _ (p : Plan) (st : state.State) where
 
   -- 29 and 30
   pub report-asked : (d r : declared.Report) (rest : List records.Report) → IsReport d → IsReport r → st .due ≡ reportOf d ∷ rest
-      → reportRule d r ≡ ruleNumber (broken p st (report (reportOf r)))
+      → dueRule d (r .kind) (r .who) ≡ ruleNumber (broken p st (report (reportOf r)))
   unfolding broken
-  report-asked d r rest i j e = rw (e, kind-is d i, kind-is r j) (go (equal? (d .kind) (r .kind)))
+  report-asked d r rest i j e = rw (e, kind-is d i, kind-is r j, le-ltb (r .kind) 16 (j .least)) (go (equal? (d .kind) (r .kind)))
     where
       go : (d .kind ≡ r .kind) ⊎ (d .kind ≢ r .kind)
-          → reportRule d r ≡ ruleNumber (cond (eqb (d .kind) (r .kind)) (cond (same (named (reportOf d)) (named (reportOf r))) none (some 30)) (some 29))
+          → cond (eqb (d .kind) (r .kind)) (cond (eqb (d .who) (r .who)) 0 30) 29 ≡ ruleNumber (cond (eqb (d .kind) (r .kind)) (cond (same (named (reportOf d)) (named (reportOf r))) none (some 30)) (some 29))
       go (inl k) = rw (same-named d r i k) (number-of-two (eqb (d .kind) (r .kind)) (eqb (d .who) (r .who)) 29 30)
       go (inr n) = rw (ne-eqb (d .kind) (r .kind) n)

@@ -13,7 +13,7 @@ use Rattle.model.specs.State.{switchedTo}
 use Rattle.model.proofs.Tests.{equal?}
 use Rattle.machine.specs.declared.reports.Report.{Report}
 use Rattle.machine.specs.Lists.{threadOf, reportOf}
-use Rattle.machine.specs.Steps.{IsReport}
+use Rattle.machine.specs.Contracts.{IsReport}
 
 module _ (r : Report) where
   -- what holds of each of the five kinds, and of a number that names no kind, holds

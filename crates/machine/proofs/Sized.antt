@@ -1,4 +1,4 @@
--- The lengths of the arrays of a declared struct, from what owning it tells.
+-- The lengths of the arrays of the declared structs, from what owning one tells.
 use mathlib.Core.Path.{_≡_, sym, _∙_}
 use mathlib.Core.List.{_∷_, []}
 use lib.ListN.{length, length-map}
@@ -7,14 +7,14 @@ use denote.Struct.Laws.{owed, val}
 use denote.Struct.Declared.{row}
 use Rattle.machine.specs.declared.Machine.{Machine}
 use Rattle.machine.specs.declared.reports.Reports.{Reports}
-use Rattle.machine.specs.declared.calls.Called.{Called}
+use Rattle.machine.specs.declared.reporting.Reporting.{Reporting}
 use Rattle.machine.specs.declared.state.State.{State}
 use Rattle.machine.proofs.Machine.{the-type as machine-type}
 use Rattle.machine.proofs.Machine.Laws.{the-laws as machine-laws}
 use Rattle.machine.proofs.reports.Reports.{the-type as reports-type}
 use Rattle.machine.proofs.reports.Reports.Laws.{the-laws as reports-laws}
-use Rattle.machine.proofs.calls.Called.{the-type as called-type}
-use Rattle.machine.proofs.calls.Called.Laws.{the-laws as called-laws}
+use Rattle.machine.proofs.reporting.Reporting.{the-type as reporting-type}
+use Rattle.machine.proofs.reporting.Reporting.Laws.{the-laws as reporting-laws}
 use Rattle.machine.proofs.state.State.{the-type as state-type}
 use Rattle.machine.proofs.state.State.Laws.{the-laws as state-laws}
 
@@ -27,5 +27,9 @@ wakes-size m g = sym (length-map (m .wakes) _) ∙ (owed machine-type machine-la
 pub due-size : (s : State) → Is (row state-type) s (val state-type state-laws s ∷ []) → length (s .due .items) ≡ 17
 due-size s g = reports-size (s .due) ((owed state-type state-laws s _ g) .1 .0)
 
-pub called-size : (c : Called) → Is (row called-type) c (val called-type called-laws c ∷ []) → length (c .reports) ≡ 17
-called-size c g = sym (length-map (c .reports) _) ∙ (owed called-type called-laws c _ g) .1 .0 .1 .0 .1
+pub reporting-size : (c : Reporting) → Is (row reporting-type) c (val reporting-type reporting-laws c ∷ []) → length (c .reports) ≡ 17
+reporting-size c g = sym (length-map (c .reports) _) ∙ (owed reporting-type reporting-laws c _ g) .1 .0 .1 .0 .1
+
+-- and of the machine in it
+pub slept-size : (c : Reporting) → Is (row reporting-type) c (val reporting-type reporting-laws c ∷ []) → length (c .machine .wakes) ≡ 16
+slept-size c g = wakes-size (c .machine) ((owed reporting-type reporting-laws c _ g) .0)

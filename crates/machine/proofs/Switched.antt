@@ -3,7 +3,7 @@ use mathlib.Core.Path.{_≡_, refl, ap, sym, _∙_}
 use mathlib.Core.Logic.{_⊎_, inl, inr}
 use mathlib.Core.Bool.{cond, not}
 use mathlib.Core.List.{List, [], _∷_, _++_}
-use Prim.Native.Nat.{ℕ}
+use Prim.Native.Nat.{ℕ, _<_}
 use native.Mathlib.Omega.{arith}
 use lib.Dec.{T}
 use Rattle.model.specs.Searches.{_▷_, same}
@@ -16,13 +16,11 @@ use Rattle.model.proofs.Tests.{split, is-true, is-false, same-eq, same-refl}
 use Rattle.model.proofs.Laws.{chosen-is}
 use Rattle.machine.specs.declared.reports.Reports.{Reports}
 use Rattle.machine.specs.declared.Machine.{Machine}
-use Rattle.machine.specs.declared.calls.Called.{Called}
 use Rattle.lists.specs.Lists.{numbered}
 use Rattle.lists.proofs.Laws.{numbered-threadOf, threadOf-numbered}
 use Rattle.machine.specs.Lists.{threadOf, owed}
 use Rattle.machine.specs.View.{planOf, viewed, idle}
-use Rattle.machine.specs.Contracts.{reportsOf}
-use Rattle.machine.specs.Steps.{Settles}
+use Rattle.machine.specs.Contracts.{Chooses}
 
 -- who is chosen does not depend on what is due
 pub chosen-due : (p : Plan) (m : Machine) (due : List Report) → chosen p (viewed m due) ≡ chosen p (idle m)
@@ -43,25 +41,31 @@ module _ (p : Plan) (st : State) where
       go (inl t) = absurd (d (same-eq (lastReported st) (chosen p st) t))
       go (inr f) = ap (λ b. cond b st (st ▷ owe (Switch (chosen p st) ∷ []))) (is-false (same (lastReported st) (chosen p st)) f)
 
--- after a call, where this is the number of the chosen thread
-module _ (c : Called) {ceilings : List ℕ} (settles : Settles c ceilings) (who : ℕ) (is-chosen : who ≡ numbered (chosen (planOf (c .machine)) (idle (c .machine)))) where
-  abbrev left : State
-  left = viewed (c .machine) (owed (reportsOf c))
+-- what a call left before its Switch: the chosen thread can be asked for, there is room for the Switch, and none is due yet
+pub record Settles (left : Machine) (rs : Reports) (ceilings : List ℕ) : Type 0 where
+  pub chooses : Chooses left ceilings
+  pub room : rs .count < 17
+  pub last : lastReported (viewed left (owed rs)) ≡ threadOf (left .reported)
 
-  named : threadOf who ≡ chosen (planOf (c .machine)) left
+-- after a call, where this is the number of the chosen thread
+module _ {m : Machine} {rs : Reports} {ceilings : List ℕ} (settles : Settles m rs ceilings) (who : ℕ) (is-chosen : who ≡ numbered (chosen (planOf m) (idle m))) where
+  abbrev left : State
+  left = viewed m (owed rs)
+
+  named : threadOf who ≡ chosen (planOf m) left
   named =
-      let p = planOf (c .machine) in
-      let o = chosen p (idle (c .machine)) in
+      let p = planOf m in
+      let o = chosen p (idle m) in
       ap threadOf is-chosen
-      ∙ threadOf-numbered o (λ t e. omega (arith, settles .chooses .listed .known t (chosen-is p (idle (c .machine)) t e .0)))
-      ∙ sym (chosen-due p (c .machine) (owed (reportsOf c)))
+      ∙ threadOf-numbered o (λ t e. omega (arith, settles .chooses .listed .known t (chosen-is p (idle m) t e .0)))
+      ∙ sym (chosen-due p m (owed rs))
 
   -- the number is the one last reported
-  pub unswitched : who ≡ c .machine .reported → left ≡ switch (planOf (c .machine)) left
-  unswitched e = sym (switch-none (planOf (c .machine)) left (settles .last ∙ ap threadOf (sym e) ∙ named))
+  pub unswitched : who ≡ m .reported → left ≡ switch (planOf m) left
+  unswitched e = sym (switch-none (planOf m) left (settles .last ∙ ap threadOf (sym e) ∙ named))
 
   -- it is not, and the Switch stands last
-  pub switched : (who ≡ c .machine .reported → ⊥) → (rs : Reports) → owed rs ≡ owed (reportsOf c) ++ (Switch (threadOf who) ∷ []) → viewed (c .machine) (owed rs) ≡ switch (planOf (c .machine)) left
-  switched d rs e =
-      ap (viewed (c .machine)) (e ∙ ap (λ o. owed (reportsOf c) ++ (Switch o ∷ [])) named)
-      ∙ sym (switch-due (planOf (c .machine)) left (λ q. d (sym (sym (numbered-threadOf (c .machine .reported)) ∙ ap numbered (sym (settles .last) ∙ q ∙ sym named) ∙ numbered-threadOf who))))
+  pub switched : (who ≡ m .reported → ⊥) → viewed m (owed rs ++ (Switch (threadOf who) ∷ [])) ≡ switch (planOf m) left
+  switched d =
+      ap (λ o. viewed m (owed rs ++ (Switch o ∷ []))) named
+      ∙ sym (switch-due (planOf m) left (λ q. d (sym (sym (numbered-threadOf (m .reported)) ∙ ap numbered (sym (settles .last) ∙ q ∙ sym named) ∙ numbered-threadOf who))))

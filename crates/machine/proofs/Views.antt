@@ -15,10 +15,11 @@ use Rattle.plan.proofs.Laws.{threads-view}
 use Rattle.machine.specs.declared.Machine.{Machine}
 use Rattle.machine.specs.declared.reports.Reports.{Reports}
 use Rattle.machine.specs.declared.slots.Slots.{Slots}
+use Rattle.machine.specs.declared.time.Tick.{Tick}
 use Rattle.lists.specs.Words.{nibble}
 use Rattle.lists.proofs.Laws.{read-set, read-other}
 use Rattle.machine.specs.Lists.{reportOf, noReport, owed}
-use Rattle.machine.specs.View.{conditionOf, conditionIn, conditionsOf, planOf, idle}
+use Rattle.machine.specs.View.{conditionOf, wakeOf, conditionIn, conditionsOf, planOf, idle}
 use Rattle.machine.specs.Contracts.{placed, waitsFor}
 
 -- a view has as many entries as are in use
@@ -43,25 +44,25 @@ changed-at {A} f g n t same' = ext-getD (g t) (map g (upTo n)) (set (map f (upTo
         go (inl e) = listed g n i (g t) b ∙ rw e (sym (getD-set-same (map f (upTo n)) t (g t) (g t) (omega (arith, b, length-listed f n))))
         go (inr d) = listed g n i (g t) b ∙ same' i d ∙ sym (getD-set-other (map f (upTo n)) t i (g t) (g t) d ∙ listed f n i (g t) b)
 
-pub condition-at : (n : ℕ) (slots : Slots) (wakes : List ℕ) (t : ℕ) → t < n → getD (conditionsOf n slots wakes) t dormant ≡ conditionIn slots wakes t
+pub condition-at : (n : ℕ) (slots : Slots) (wakes : List Tick) (t : ℕ) → t < n → getD (conditionsOf n slots wakes) t dormant ≡ conditionIn slots wakes t
 condition-at n slots wakes t h = listed (conditionIn slots wakes) n t dormant h
 
 -- what another condition of one thread changes: its number, the section that it waits for, the tick number that it sleeps until
 
-module _ (n : ℕ) (slots : Slots) (wakes : List ℕ) (t : ℕ) where
-  pub placed-seen : (k : ℕ) → k < 16 → conditionsOf n (placed slots t k) wakes ≡ set (conditionsOf n slots wakes) t (conditionOf k (nibble (slots .wants) t) (getD wakes t 0))
+module _ (n : ℕ) (slots : Slots) (wakes : List Tick) (t : ℕ) where
+  pub placed-seen : (k : ℕ) → k < 16 → conditionsOf n (placed slots t k) wakes ≡ set (conditionsOf n slots wakes) t (conditionOf k (nibble (slots .wants) t) (wakeOf wakes t))
   placed-seen k h =
-      changed-at (conditionIn slots wakes) (conditionIn (placed slots t k) wakes) n t (λ i d. ap (λ s. conditionOf s (nibble (slots .wants) i) (getD wakes i 0)) (read-other (slots .states) t i k h d))
-      ∙ ap (λ s. set (conditionsOf n slots wakes) t (conditionOf s (nibble (slots .wants) t) (getD wakes t 0))) (read-set (slots .states) t k h)
+      changed-at (conditionIn slots wakes) (conditionIn (placed slots t k) wakes) n t (λ i d. ap (λ s. conditionOf s (nibble (slots .wants) i) (wakeOf wakes i)) (read-other (slots .states) t i k h d))
+      ∙ ap (λ s. set (conditionsOf n slots wakes) t (conditionOf s (nibble (slots .wants) t) (wakeOf wakes t))) (read-set (slots .states) t k h)
 
   pub waits-seen : (k : ℕ) → k < 16 → conditionsOf n (waitsFor slots t k) wakes ≡ set (conditionsOf n slots wakes) t (waiting k)
   waits-seen k h =
       changed-at (conditionIn slots wakes) (conditionIn (waitsFor slots t k) wakes) n t
-      (λ i d. ap₂ (λ (s w : ℕ). conditionOf s w (getD wakes i 0)) (read-other (slots .states) t i 3 (omega arith) d) (read-other (slots .wants) t i k h d))
-      ∙ ap₂ (λ (s w : ℕ). set (conditionsOf n slots wakes) t (conditionOf s w (getD wakes t 0))) (read-set (slots .states) t 3 (omega arith)) (read-set (slots .wants) t k h)
+      (λ i d. ap₂ (λ (s w : ℕ). conditionOf s w (wakeOf wakes i)) (read-other (slots .states) t i 3 (omega arith) d) (read-other (slots .wants) t i k h d))
+      ∙ ap₂ (λ (s w : ℕ). set (conditionsOf n slots wakes) t (conditionOf s w (wakeOf wakes t))) (read-set (slots .states) t 3 (omega arith)) (read-set (slots .wants) t k h)
 
-  pub sleeps-seen : (k : ℕ) → t < length wakes → conditionsOf n (placed slots t 2) (set wakes t k) ≡ set (conditionsOf n slots wakes) t (asleep k)
+  pub sleeps-seen : (k : Tick) → t < length wakes → conditionsOf n (placed slots t 2) (set wakes t k) ≡ set (conditionsOf n slots wakes) t (asleep (k .0))
   sleeps-seen k h =
       changed-at (conditionIn slots wakes) (conditionIn (placed slots t 2) (set wakes t k)) n t
-      (λ i d. ap₂ (λ (s w : ℕ). conditionOf s (nibble (slots .wants) i) w) (read-other (slots .states) t i 2 (omega arith) d) (getD-set-other wakes t i k 0 d))
-      ∙ ap₂ (λ (s w : ℕ). set (conditionsOf n slots wakes) t (conditionOf s (nibble (slots .wants) t) w)) (read-set (slots .states) t 2 (omega arith)) (getD-set-same wakes t k 0 h)
+      (λ i d. ap₂ (λ (s w : ℕ). conditionOf s (nibble (slots .wants) i) w) (read-other (slots .states) t i 2 (omega arith) d) (ap (λ (x : Tick). x .0) (getD-set-other wakes t i k (record { 0 = 0 }) d)))
+      ∙ ap₂ (λ (s w : ℕ). set (conditionsOf n slots wakes) t (conditionOf s (nibble (slots .wants) t) w)) (read-set (slots .states) t 2 (omega arith)) (ap (λ (x : Tick). x .0) (getD-set-same wakes t k (record { 0 = 0 }) h))

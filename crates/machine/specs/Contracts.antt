@@ -1,33 +1,32 @@
--- What the machine's functions ask and answer.
+-- What the machine's functions other than the calls ask and answer.
 use mathlib.Core.Path.{_≡_}
-use mathlib.Core.Bool.{Bool, true, cond}
-use mathlib.Core.List.{List, [], _∷_, map, List·Memᴰ as Mem}
+use mathlib.Core.Bool.{cond, not, _&&_}
+use mathlib.Core.List.{List, [], _∷_, map, tail, List·Memᴰ as Mem}
 use Prim.Native.Nat.{ℕ, _+_, min, _≤_, _<_}
 use lib.Dec.{T, eqb}
+use lib.ListN.{length}
 use Rattle.model.specs.Searches.{upTo}
 use Rattle.model.specs.Plan as plan
 use Rattle.model.specs.State as state
 use Rattle.model.specs.State.{Condition, dormant, ready, asleep, waiting}
-use Rattle.model.specs.Priorities.{chosen}
-use Rattle.model.specs.Records as records
-use Rattle.model.specs.Calls.{tick, perform}
-use Rattle.model.specs.Rules.{broken}
-use Rattle.model.specs.Formed.{formed, lastTick, lastWake}
+use Rattle.model.specs.Runs.{deliver}
+use Rattle.model.specs.Formed.{formed, lastWake}
 use Rattle.plan.specs.View as plans
 use Rattle.plan.specs.declared.Plan.{Plan}
 use Rattle.lists.specs.declared.queue.Queue.{Queue}
 use Rattle.lists.specs.declared.holds.Holds.{Holds}
 use Rattle.lists.specs.Words.{withNibble}
-use Rattle.lists.specs.Lists.{numbered, queued}
+use Rattle.lists.specs.Lists.{queued}
 use Rattle.lists.specs.Choice.{Counts}
 use Rattle.machine.specs.declared.Machine.{Machine}
+use Rattle.machine.specs.declared.time.Tick.{Tick}
 use Rattle.machine.specs.declared.slots.Slots.{Slots}
-use Rattle.machine.specs.declared.calls.Called.{Called}
-use Rattle.machine.specs.declared.reports.Reports.{Reports}
 use Rattle.machine.specs.declared.reports.Report.{Report}
-use Rattle.machine.specs.Lists.{owed}
-use Rattle.machine.specs.View.{planOf, viewed, idle}
-use Rattle.machine.specs.Rules.{ruleNumber}
+use Rattle.machine.specs.declared.reports.Reports.{Reports}
+use Rattle.machine.specs.declared.reporting.Reporting.{Reporting}
+use Rattle.machine.specs.declared.state.State.{State}
+use Rattle.machine.specs.Lists.{reportOf}
+use Rattle.machine.specs.View.{conditionsOf, planOf, idle, view}
 
 -- a thread comes into another condition, or waits for a section
 
@@ -36,62 +35,6 @@ placed s t k = record { states = withNibble (s .states) t k; wants = s .wants }
 
 abbrev pub waitsFor : Slots → (thread section : ℕ) → Slots
 waitsFor s t n = record { states = withNibble (s .states) t 3; wants = withNibble (s .wants) t n }
-
--- and those in the queue and in the waits are threads
-pub record Listed (threads : ℕ) (queue : Queue) (holds : Holds) (waits : Queue) : Type 0 where
-  pub threads' : threads ≤ 16
-  pub counts : Counts queue holds waits
-  pub known : (t : ℕ) → Mem t (queued queue) → t < threads
-  pub waiting' : (t : ℕ) → Mem t (queued waits) → t < threads
-
--- A machine with nothing due is well formed: the answer is not 12. Every method asks for this, and for what the rules of its call say.
-pub record Formed (m : Machine) : Type 0 where
-  pub passes : T (formed (planOf m) (idle m))
-
--- the ceilings of the machine's plan, computed once and passed beside it
-abbrev pub Ceilings : Machine → List ℕ → Type 0
-Ceilings m ceilings = ceilings ≡ map (plan.ceiling (planOf m)) (upTo 16)
-
-pub record Starts (r : Machine) (p : Plan) : Type 0 where
-  pub plan' : r .plan ≡ p
-  pub seen : idle r ≡ state.start (plans.view p)
-
--- What the calls ask, each of a well-formed machine with nothing due. The caller is the number of the chosen thread, 255 where there is none.
-
-pub record CreateAsked (m : Machine) (thread : ℕ) : Type 0 where
-  pub formed : Formed m
-  pub known : thread < m .plan .threads
-
-pub record Asked (m : Machine) (caller : ℕ) : Type 0 where
-  pub formed : Formed m
-  pub caller' : caller ≡ numbered (chosen (planOf m) (idle m))
-
-pub record SectionAsked (m : Machine) (caller section : ℕ) : Type 0 where
-  pub asked : Asked m caller
-  pub known : section < m .plan .sections
-
--- the tick number has room to grow: a Tick at the last one has the answer 13
-pub record Ticks (m : Machine) : Type 0 where
-  pub formed : Formed m
-  pub room : m .tick .0 < lastTick
-
--- what finding the chosen thread asks: the plan passes, and the lists are within their words
-pub record Chooses (m : Machine) (ceilings : List ℕ) : Type 0 where
-  pub valid : T (plan.validPlan (planOf m))
-  pub listed : Listed (m .plan .threads) (m .queue) (m .holds) (m .waits)
-  pub ceilings' : Ceilings m ceilings
-
--- the reports that a call hands back
-abbrev pub reportsOf : Called → Reports
-reportsOf c = record { items = c .reports; count = c .count }
-
--- The first broken rule, 0 if there is none; then the machine and its reports stand for what the model's call makes, or for the machine as it
--- came, with nothing due.
-pub record Makes (r : Called) (m : Machine) (k : records.Call) : Type 0 where
-  pub plan' : r .machine .plan ≡ m .plan
-  pub rule' : r .rule ≡ ruleNumber (broken (planOf m) (idle m) (records.call k))
-  pub made : r .rule ≡ 0 → viewed (r .machine) (owed (reportsOf r)) ≡ perform (planOf m) k (idle m)
-  pub kept : (r .rule ≡ 0 → ⊥) → viewed (r .machine) (owed (reportsOf r)) ≡ idle m
 
 -- the tick number that a sleeper waits for; for any other thread the greatest that there can be
 abbrev pub wakesAt : Condition → ℕ
@@ -105,29 +48,97 @@ abbrev pub soonest : List Condition → ℕ
 soonest [] = lastWake
 soonest (c ∷ cs) = min (wakesAt c) (soonest cs)
 
--- a report given: a Switch given names the thread reported, and nothing else changes
-abbrev pub told : Called → Report → Called
-told c given =
+-- the lists are within their words, and those in the queue and in the waits are threads
+pub record Listed (threads : ℕ) (queue : Queue) (holds : Holds) (waits : Queue) : Type 0 where
+  pub threads' : threads ≤ 16
+  pub counts : Counts queue holds waits
+  pub known : (t : ℕ) → Mem t (queued queue) → t < threads
+  pub waiting' : (t : ℕ) → Mem t (queued waits) → t < threads
+
+-- the ceilings of the machine's plan, computed once and passed beside it
+abbrev pub Ceilings : Machine → List ℕ → Type 0
+Ceilings m ceilings = ceilings ≡ map (plan.ceiling (planOf m)) (upTo 16)
+
+-- what finding the chosen thread asks: a valid plan with its ceilings, and lists that name its threads
+pub record Chooses (m : Machine) (ceilings : List ℕ) : Type 0 where
+  pub valid : T (plan.validPlan (planOf m))
+  pub listed : Listed (m .plan .threads) (m .queue) (m .holds) (m .waits)
+  pub ceilings' : Ceilings m ceilings
+
+-- a machine at its start, and with nothing due
+
+pub record Starts (r : Machine) (p : Plan) : Type 0 where
+  pub plan' : r .plan ≡ p
+  pub seen : idle r ≡ state.start (plans.view p)
+
+pub record Fresh (r : State) (p : Plan) : Type 0 where
+  pub plan' : r .machine .plan ≡ p
+  pub seen : view r ≡ state.start (plans.view p)
+
+-- a report of one of document 01's kinds
+pub record IsReport (r : Report) : Type 0 where
+  pub least : 16 ≤ r .kind
+  pub most : r .kind ≤ 20
+
+-- a well-formed state with something due
+pub record Owes (s : State) : Type 0 where
+  pub formed' : T (formed (planOf (s .machine)) (view s))
+  pub due' : 0 < length (view s .due)
+
+pub record FirstDue (r : Report) (s : State) : Type 0 where
+  pub kind' : IsReport r
+  pub first : view s .due ≡ reportOf r ∷ tail (view s .due)
+
+-- a report is given: a Switch given names the thread reported
+pub record Delivers (r s : State) (given : Report) : Type 0 where
+  pub plan' : r .machine .plan ≡ s .machine .plan
+  pub seen : view r ≡ deliver (reportOf given) (view s)
+
+-- a state to be moved on from, with its chosen thread
+abbrev pub opened : State → (chosen : ℕ) → Reporting
+opened s x = record { machine = s .machine; reports = s .due .items; count = s .due .count; due = s .due .count; given = s .given; chosen = x; quiet = record { 0 = 0 }; rule = 0 }
+
+-- A machine with these reports due, and a Switch behind them where the chosen thread is not the one reported. Where a rule is broken there is
+-- none.
+abbrev pub owing : Machine → Reports → (rule chosen : ℕ) → Tick → Reporting
+owing m rs rule x quiet =
+    record {
+      machine = m;
+      reports = rs .items;
+      count = rs .count;
+      due = cond (eqb rule 0 && not (eqb x (m .reported))) (rs .count + 1) (rs .count);
+      given = 0;
+      chosen = x;
+      quiet = quiet;
+      rule = rule;
+    }
+
+-- with the tick number before which nobody wakes
+abbrev pub quieted : Reporting → Reporting
+quieted c =
     let m = c .machine in
     record {
-      machine = record { plan = m .plan; tick = m .tick; slots = m .slots; wakes = m .wakes; queue = m .queue; holds = m .holds; waits = m .waits; reported = cond (eqb (given .kind) 17) (given .who) (m .reported) };
+      machine = m;
       reports = c .reports;
       count = c .count;
+      due = c .due;
+      given = c .given;
+      chosen = c .chosen;
+      quiet = record { 0 = soonest (conditionsOf (m .plan .threads) (m .slots) (m .wakes)) };
       rule = c .rule;
     }
 
 -- a Tick that wakes nobody: the tick number grows by one, and nothing else changes
-abbrev pub passed : Called → Called
+abbrev pub passed : Reporting → Reporting
 passed c =
     let m = c .machine in
     record {
       machine = record { plan = m .plan; tick = record { 0 = m .tick .0 + 1 }; slots = m .slots; wakes = m .wakes; queue = m .queue; holds = m .holds; waits = m .waits; reported = m .reported };
       reports = c .reports;
       count = c .count;
+      due = c .due;
+      given = c .given;
+      chosen = c .chosen;
+      quiet = c .quiet;
       rule = c .rule;
     }
-
--- Where the answer is Yes a Tick moves the tick number alone, and no Switch is due behind it.
-pub record Still (r : Bool) (m : Machine) : Type 0 where
-  pub passes : r ≡ true → tick (idle m) ≡ state.setTickNumber (m .tick .0 + 1) (idle m)
-  pub runs : r ≡ true → numbered (chosen (planOf m) (idle m)) ≡ m .reported

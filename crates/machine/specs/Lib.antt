@@ -3,4 +3,5 @@ pub mod Lists
 pub mod View
 pub mod Rules
 pub mod Contracts
-pub mod Steps
+pub mod Calls
+pub mod Records

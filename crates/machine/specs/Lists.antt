@@ -1,8 +1,9 @@
 -- The reports of the model that the code's array stands for. Of the array only the first `count` entries are in use.
 use mathlib.Core.Bool.{cond}
 use mathlib.Core.List.{List, map}
+use Prim.Native.Nat.{ℕ}
 use lib.Dec.{eqb}
-use lib.ListN.{getD, replicate}
+use lib.ListN.{getD}
 use Rattle.model.specs.Searches.{upTo}
 use Rattle.model.specs.Records.{Ready, Switch, Won, Lost, Yield}
 use Rattle.model.specs.Records as records
@@ -20,9 +21,9 @@ reportOf r =
 abbrev pub noReport : Report
 noReport = record { kind = 0; who = 0 }
 
--- nothing due
-unfoldable pub noReports : Reports
-noReports = record { items = replicate 17 noReport; count = 0 }
+-- so many reports, by their places
+abbrev pub listed : (at : ℕ → Report) (count : ℕ) → List records.Report
+listed at n = map (λ i. reportOf (at i)) (upTo n)
 
 abbrev pub owed : Reports → List records.Report
-owed rs = map (λ i. reportOf (getD (rs .items) i noReport)) (upTo (rs .count))
+owed rs = listed (λ i. getD (rs .items) i noReport) (rs .count)

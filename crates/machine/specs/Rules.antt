@@ -3,7 +3,7 @@ use mathlib.Core.Bool.{cond}
 use mathlib.Core.List.{List}
 use mathlib.Core.Option.{Option, none, some}
 use Prim.Native.Nat.{ℕ}
-use lib.Dec.{eqb}
+use lib.Dec.{eqb, ltb}
 use Rattle.model.specs.Rules.{holdsNone, holdsNot, lastTaken}
 use Rattle.plan.specs.View.{mayTakeIn}
 use Rattle.lists.specs.declared.holds.Holds.{Holds}
@@ -32,5 +32,6 @@ takeRule threads needs hs x s = cond (eqb x 255) 22 (cond (mayTakeIn threads nee
 abbrev pub giveRule : Holds → (chosen section : ℕ) → ℕ
 giveRule hs x s = cond (eqb x 255) 22 (cond (eqb (numbered (lastTaken (held hs) x)) s) 0 27)
 
-abbrev pub reportRule : (first given : Report) → ℕ
-reportRule d r = cond (eqb (d .kind) (r .kind)) (cond (eqb (d .who) (r .who)) 0 30) 29
+-- where this report is due first: 21 of a call, 29 and 30 of a report
+abbrev pub dueRule : (first : Report) (kind who : ℕ) → ℕ
+dueRule d k t = cond (ltb k 16) 21 (cond (eqb (d .kind) k) (cond (eqb (d .who) t) 0 30) 29)

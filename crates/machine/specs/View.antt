@@ -2,7 +2,7 @@
 use mathlib.Core.Bool.{cond}
 use mathlib.Core.List.{List, [], map}
 use Prim.Native.Nat.{ℕ}
-use lib.Dec.{eqb}
+use lib.Dec.{eqb, ltb}
 use lib.ListN.{getD, drop}
 use Rattle.model.specs.Searches.{upTo}
 use Rattle.model.specs.Plan as plan
@@ -15,19 +15,27 @@ use Rattle.lists.specs.Lists.{queued, held}
 use Rattle.machine.specs.declared.slots.Slots.{Slots}
 use Rattle.machine.specs.declared.Machine.{Machine}
 use Rattle.machine.specs.declared.state.State.{State}
-use Rattle.machine.specs.Lists.{threadOf, owed}
+use Rattle.machine.specs.declared.reports.Report.{Report}
+use Rattle.machine.specs.declared.reports.Reports.{Reports}
+use Rattle.machine.specs.declared.reporting.Reporting.{Reporting}
+use Rattle.machine.specs.declared.time.Tick.{Tick}
+use Rattle.machine.specs.Lists.{threadOf, noReport, listed, owed}
 
 -- a condition by its number: 0 dormant, 1 ready, 2 asleep until a tick number, 3 waiting for a section. Any other number stands for a wait
 -- for a section that no plan has, so that answer 12 is a question about the state alone.
 abbrev pub conditionOf : (state want wake : ℕ) → Condition
 conditionOf s n w = cond (eqb s 0) dormant (cond (eqb s 1) ready (cond (eqb s 2) (asleep w) (cond (eqb s 3) (waiting n) (waiting 255))))
 
+-- the tick number of a thread's entry, 0 past the end
+abbrev pub wakeOf : List Tick → (thread : ℕ) → ℕ
+wakeOf wakes t = getD wakes t (record { 0 = 0 }) .0
+
 -- the condition of a thread
-abbrev pub conditionIn : Slots → (wakes : List ℕ) (thread : ℕ) → Condition
-conditionIn s wakes t = conditionOf (nibble (s .states) t) (nibble (s .wants) t) (getD wakes t 0)
+abbrev pub conditionIn : Slots → (wakes : List Tick) (thread : ℕ) → Condition
+conditionIn s wakes t = conditionOf (nibble (s .states) t) (nibble (s .wants) t) (wakeOf wakes t)
 
 -- one for each thread
-abbrev pub conditionsOf : (threads : ℕ) → Slots → (wakes : List ℕ) → List Condition
+abbrev pub conditionsOf : (threads : ℕ) → Slots → (wakes : List Tick) → List Condition
 conditionsOf threads s wakes = map (conditionIn s wakes) (upTo threads)
 
 abbrev pub planOf : Machine → plan.Plan
@@ -53,3 +61,14 @@ idle m = viewed m []
 -- the reports still due are those behind the ones given
 abbrev pub view : State → state.State
 view s = viewed (s .machine) (drop (s .given) (owed (s .due)))
+
+-- the reports of the array
+abbrev pub reportsIn : Reporting → Reports
+reportsIn c = record { items = c .reports; count = c .count }
+
+-- Of a machine with the reports of its latest call: those of the array, and behind them the Switch to the chosen thread, as far as they are due.
+abbrev pub reportAt : Reporting → (place : ℕ) → Report
+reportAt c i = cond (ltb i (c .count)) (getD (c .reports) i noReport) (record { kind = 17; who = c .chosen })
+
+abbrev pub shown : Reporting → state.State
+shown c = viewed (c .machine) (drop (c .given) (listed (reportAt c) (c .due)))

@@ -1,102 +1,25 @@
-// What each call does. A method takes the machine by value, with nothing due, and hands it back with the reports that the call makes due, or
-// with the rule that it breaks.
-ghost use mathlib.Core.Path.{_≡_};
-ghost use mathlib.Core.Bool.{cond, _&&_};
-ghost use Prim.Native.Nat.{_+_, _≤_, _<_};
-ghost use lib.Dec.{eqb, ltb};
+// What each call does. A method takes the machine by value, with nothing due, and hands it back with all the reports that the call makes due,
+// its Switch last, or with the rule that it breaks.
 ghost use Rattle.model.specs.Records as records;
-ghost use Rattle.model.specs.Priorities.{chosen};
-ghost use Rattle.model.specs.Formed.{lastTick};
-ghost use Rattle.lists.specs.Lists.{numbered};
-ghost use Rattle.machine.specs.View.{planOf, idle, conditionsOf};
-ghost use Rattle.machine.specs.Contracts.{Starts, CreateAsked, Ticks, Asked, SectionAsked, Ceilings, Chooses, Makes, told, passed, Still, soonest};
-use crate::Machine;
-use crate::reports::Report;
+ghost use Rattle.machine.specs.Calls.{Calls, Called};
+use crate::reporting::Reporting;
 use crate::reports::Reports;
 use crate::rules;
 use crate::slots;
-use crate::slots::Slots;
 use crate::time::Tick;
 use crate::time::Wait;
 use lists::choice;
-use lists::holds::Holds;
 use lists::nibbles::nibble_at;
-use lists::queue::Queue;
-use plan::Plan;
 use plan::lookup::base;
 
-// The reports that a call makes due, and the rule that it breaks, 0 if there is none; a broken rule leaves the machine as it came.
-pub struct Called {
-    pub machine: Machine,
-    pub reports: [Report; 17],
-    pub count: usize,
-    pub rule: u8,
-}
-
-impl Called {
-    // A Switch given names the thread reported.
-    pub fn told(self, given: Report) -> Called
-        ensures { λ r. ⌜ r ≡ told self given ⌝ }
-    {
-        let mut c = self;
-        if given.kind == 17 {
-            c.machine.reported = given.who;
-        }
-        c
-    }
-
-    // A Tick at which nobody wakes: the tick number grows, and nothing else changes.
-    pub fn passed(self) -> Called
-        requires { ⌜ self .machine .tick .0 < lastTick ⌝ }
-        ensures { λ r. ⌜ r ≡ passed self ⌝ }
-    {
-        let mut c = self;
-        let m = c.machine;
-        let now = m.tick;
-        let number = now.next();
-        c.machine.tick.0 = number.0;
-        c
-    }
-
-    // Whether the next Tick wakes nobody and makes no Switch due, where nobody wakes before this tick number.
-    pub fn is_quiet(self, until: u32, chosen: u8) -> bool
-        requires { ⌜ self .machine .tick .0 < lastTick ⌝ }
-        ensures { λ r. ⌜ r ≡ ltb (self .machine .tick .0 + 1) until && eqb chosen (self .machine .reported) ⌝ }
-    {
-        let m = self.machine;
-        let now = m.tick;
-        let number = now.next();
-        number.0 < until && chosen == m.reported
-    }
-}
-
-impl Machine {
-    // At the start all are dormant: see model, State.start.
-    pub fn start(plan: Plan) -> Machine
-        ensures { λ r. ⌜ Starts r plan ⌝ }
-    {
-        Machine {
-            plan,
-            tick: Tick(0),
-            slots: Slots {
-                states: 0,
-                wants: 0,
-            },
-            wakes: [0u32; 16],
-            queue: Queue::none(),
-            holds: Holds::none(),
-            waits: Queue::none(),
-            reported: 255,
-        }
-    }
-
+impl Reporting {
     // Create: see model, Calls.create.
-    pub fn create(self, thread: u8) -> Called
-        requires { ⌜ CreateAsked self thread ⌝ }
-        ensures { λ r. ⌜ Makes r self (records.Create thread) ⌝ }
+    pub fn create(self, ceilings: &[u8; 16], thread: u8) -> Reporting
+        requires { ⌜ Calls self (now ceilings) (records.Create thread) ⌝ }
+        ensures { λ r. ⌜ Called r self (records.Create thread) ⌝ }
     {
-        let mut m = self;
-        let mut rs = Reports::none();
+        let mut c = self.cleared();
+        let mut m = self.machine;
         let s = m.slots;
         let rule = rules::create_rule(s, thread);
         if rule == 0 {
@@ -105,27 +28,18 @@ impl Machine {
             let q = m.queue;
             let q2 = q.push(thread);
             m.queue = q2;
-            rs.items[0] = Report {
-                kind: 16,
-                who: thread,
-            };
-            rs.count = 1;
+            c = c.one(16, thread);
         }
-        let reports = rs.items;
-        Called {
-            machine: m,
-            reports,
-            count: rs.count,
-            rule,
-        }
+        let who = m.chosen(ceilings);
+        c.owing(m, rule, who, self.quiet)
     }
 
-    // Tick: see model, Calls.tick.
-    pub fn tick(self) -> Called
-        requires { ⌜ Ticks self ⌝ }
-        ensures { λ r. ⌜ Makes r self records.Tick ⌝ }
+    // Tick: see model, Calls.tick. Who sleeps soonest is asked anew.
+    pub fn tick(self, ceilings: &[u8; 16]) -> Reporting
+        requires { ⌜ Calls self (now ceilings) records.Tick ⌝ }
+        ensures { λ r. ⌜ Called r self records.Tick ⌝ }
     {
-        let mut m = self;
+        let mut m = self.machine;
         let p = m.plan;
         let n = p.threads;
         let now = m.tick;
@@ -148,52 +62,46 @@ impl Machine {
         m.tick = number;
         m.slots = slots;
         m.queue = queue;
-        let reports = rs.items;
-        Called {
-            machine: m,
-            reports,
-            count: rs.count,
-            rule: 0,
-        }
+        let quiet = slots.soonest(wakes, n);
+        let who = m.chosen(ceilings);
+        self.telling(rs).owing(m, 0, who, quiet)
     }
 
-    // Delay: see model, Calls.delay.
-    pub fn delay(self, caller: u8, wait: Wait) -> Called
-        requires { ⌜ Asked self caller ⌝ }
-        ensures { λ r. ⌜ Makes r self (records.Delay (wait .0)) ⌝ }
+    // Delay: see model, Calls.delay. Who sleeps soonest is no longer known.
+    pub fn delay(self, ceilings: &[u8; 16], wait: Wait) -> Reporting
+        requires { ⌜ Calls self (now ceilings) (records.Delay (wait .0)) ⌝ }
+        ensures { λ r. ⌜ Called r self (records.Delay (wait .0)) ⌝ }
     {
-        let mut m = self;
+        let mut m = self.machine;
+        let caller = self.chosen;
         let h = m.holds;
         let rule = rules::free_rule(h, caller);
         if rule == 0 {
             let now = m.tick;
-            let until = now.after(wait);
+            let over = now.plus(wait);
+            let until = over.next();
             let s = m.slots;
             let s2 = s.placed(caller, 2);
             m.slots = s2;
-            let k = caller as usize;
-            m.wakes[k] = until.0;
+            let mut wakes = m.wakes;
+            wakes[caller as usize] = until;
+            m.wakes = wakes;
             let q = m.queue;
             let q2 = q.without(caller);
             m.queue = q2;
         }
-        let rs = Reports::none();
-        let reports = rs.items;
-        Called {
-            machine: m,
-            reports,
-            count: rs.count,
-            rule,
-        }
+        let who = m.chosen(ceilings);
+        self.cleared().owing(m, rule, who, Tick(0))
     }
 
     // Relinquish: see model, Calls.relinquish.
-    pub fn relinquish(self, ceilings: &[u8; 16], caller: u8) -> Called
-        requires { ⌜ Asked self caller × Ceilings self (now ceilings) ⌝ }
-        ensures { λ r. ⌜ Makes r self records.Relinquish ⌝ }
+    pub fn relinquish(self, ceilings: &[u8; 16]) -> Reporting
+        requires { ⌜ Calls self (now ceilings) records.Relinquish ⌝ }
+        ensures { λ r. ⌜ Called r self records.Relinquish ⌝ }
     {
-        let mut m = self;
-        let mut rs = Reports::none();
+        let mut c = self.cleared();
+        let mut m = self.machine;
+        let caller = self.chosen;
         let rule = rules::run_rule(caller);
         if rule == 0 {
             let p = m.plan;
@@ -205,28 +113,20 @@ impl Machine {
                 let q2 = q.without(caller);
                 let q3 = q2.push(caller);
                 m.queue = q3;
-                rs.items[0] = Report {
-                    kind: 20,
-                    who: caller,
-                };
-                rs.count = 1;
+                c = c.one(20, caller);
             }
         }
-        let reports = rs.items;
-        Called {
-            machine: m,
-            reports,
-            count: rs.count,
-            rule,
-        }
+        let who = m.chosen(ceilings);
+        c.owing(m, rule, who, self.quiet)
     }
 
     // End: see model, Calls.end.
-    pub fn end(self, caller: u8) -> Called
-        requires { ⌜ Asked self caller ⌝ }
-        ensures { λ r. ⌜ Makes r self records.End ⌝ }
+    pub fn end(self, ceilings: &[u8; 16]) -> Reporting
+        requires { ⌜ Calls self (now ceilings) records.End ⌝ }
+        ensures { λ r. ⌜ Called r self records.End ⌝ }
     {
-        let mut m = self;
+        let mut m = self.machine;
+        let caller = self.chosen;
         let h = m.holds;
         let rule = rules::free_rule(h, caller);
         if rule == 0 {
@@ -237,23 +137,18 @@ impl Machine {
             let q2 = q.without(caller);
             m.queue = q2;
         }
-        let rs = Reports::none();
-        let reports = rs.items;
-        Called {
-            machine: m,
-            reports,
-            count: rs.count,
-            rule,
-        }
+        let who = m.chosen(ceilings);
+        self.cleared().owing(m, rule, who, self.quiet)
     }
 
     // Take: see model, Calls.take.
-    pub fn take(self, ceilings: &[u8; 16], caller: u8, section: u8) -> Called
-        requires { ⌜ SectionAsked self caller section × Ceilings self (now ceilings) ⌝ }
-        ensures { λ r. ⌜ Makes r self (records.Take section) ⌝ }
+    pub fn take(self, ceilings: &[u8; 16], section: u8) -> Reporting
+        requires { ⌜ Calls self (now ceilings) (records.Take section) ⌝ }
+        ensures { λ r. ⌜ Called r self (records.Take section) ⌝ }
     {
-        let mut m = self;
-        let mut rs = Reports::none();
+        let mut c = self.cleared();
+        let mut m = self.machine;
+        let caller = self.chosen;
         let p = m.plan;
         let bases = p.bases;
         let needs = p.needs;
@@ -264,11 +159,7 @@ impl Machine {
             if h.clear(ceilings, caller, b) {
                 let h2 = h.push(section, caller);
                 m.holds = h2;
-                rs.items[0] = Report {
-                    kind: 18,
-                    who: caller,
-                };
-                rs.count = 1;
+                c = c.one(18, caller);
             } else {
                 let q = m.queue;
                 let q2 = q.without(caller);
@@ -279,29 +170,21 @@ impl Machine {
                 let w = m.waits;
                 let w2 = w.push(caller);
                 m.waits = w2;
-                rs.items[0] = Report {
-                    kind: 19,
-                    who: caller,
-                };
-                rs.count = 1;
+                c = c.one(19, caller);
             }
         }
-        let reports = rs.items;
-        Called {
-            machine: m,
-            reports,
-            count: rs.count,
-            rule,
-        }
+        let who = m.chosen(ceilings);
+        c.owing(m, rule, who, self.quiet)
     }
 
     // Give: see model, Calls.give.
-    pub fn give(self, ceilings: &[u8; 16], caller: u8, section: u8) -> Called
-        requires { ⌜ SectionAsked self caller section × Ceilings self (now ceilings) ⌝ }
-        ensures { λ r. ⌜ Makes r self (records.Give section) ⌝ }
+    pub fn give(self, ceilings: &[u8; 16], section: u8) -> Reporting
+        requires { ⌜ Calls self (now ceilings) (records.Give section) ⌝ }
+        ensures { λ r. ⌜ Called r self (records.Give section) ⌝ }
     {
-        let mut m = self;
-        let mut rs = Reports::none();
+        let mut c = self.cleared();
+        let mut m = self.machine;
+        let caller = self.chosen;
         let p = m.plan;
         let bases = p.bases;
         let h = m.holds;
@@ -321,76 +204,14 @@ impl Machine {
                 let q = m.queue;
                 let q2 = q.push(t);
                 m.queue = q2;
-                rs.items[0] = Report { kind: 18, who: t };
-                rs.items[1] = Report { kind: 16, who: t };
-                rs.count = 2;
+                c = c.one(18, t);
+                c = c.two(16, t);
             } else if t != 255 {
-                rs.items[0] = Report { kind: 19, who: t };
-                rs.count = 1;
+                c = c.one(19, t);
             }
             m.holds = h2;
         }
-        let reports = rs.items;
-        Called {
-            machine: m,
-            reports,
-            count: rs.count,
-            rule,
-        }
-    }
-
-    // The chosen thread, 255 for nobody: see model, Priorities.chosen.
-    pub fn chosen(self, ceilings: &[u8; 16]) -> u8
-        requires { ⌜ Chooses self (now ceilings) ⌝ }
-        ensures { λ r. ⌜ r ≡ numbered (chosen (planOf self) (idle self)) ⌝ }
-    {
-        let p = self.plan;
-        let b = p.bases;
-        let q = self.queue;
-        let h = self.holds;
-        let w = self.waits;
-        choice::chosen_of(b, ceilings, q, h, w)
-    }
-
-    // Whether a Tick now moves the tick number alone: the chosen thread is the one reported, and none of the sixteen tick numbers is the next one.
-    // Ceilings are not asked for: where nobody waits or one section is held they decide nothing. A No may be wrong: then the Tick is made.
-    pub(crate) fn is_still(self) -> bool
-        requires { ⌜ Ticks self ⌝ }
-        ensures { λ r. ⌜ Still r self ⌝ }
-    {
-        let w = self.waits;
-        let h = self.holds;
-        if 0 < w.count && 1 < h.count {
-            return false;
-        }
-        let p = self.plan;
-        let b = p.bases;
-        let q = self.queue;
-        let none = [0u8; 16];
-        if choice::chosen_of(b, &none, q, h, w) != self.reported {
-            return false;
-        }
-        let now = self.tick;
-        let number = now.next();
-        let wakes = self.wakes;
-        slots::nobody_wakes(wakes, number)
-    }
-
-    // The tick number before which Ticks wake nobody, 0 where that is not known: found after a Tick, lost by a Delay, and kept by every other call,
-    // which puts nobody to sleep.
-    pub fn quiet_until(self, kind: u8, until: u32) -> u32
-        requires { ⌜ self .plan .threads ≤ 16 ⌝ }
-        ensures { λ r. ⌜ r ≡ cond (eqb kind 7) (soonest (conditionsOf (self .plan .threads) (self .slots) (self .wakes))) (cond (eqb kind 2) 0 until) ⌝ }
-    {
-        let s = self.slots;
-        let p = self.plan;
-        let wakes = self.wakes;
-        if kind == 7 {
-            s.soonest(wakes, p.threads)
-        } else if kind == 2 {
-            0
-        } else {
-            until
-        }
+        let who = m.chosen(ceilings);
+        c.owing(m, rule, who, self.quiet)
     }
 }

@@ -1,10 +1,14 @@
-// The machine that says what a module's kernel does. It knows nothing of dumps.
+// The machine that says what a module's kernel does, with all the reports that it owes. It knows nothing of dumps.
 pub mod time; // time.rt: tick numbers and waits
-pub mod reports; // reports.rt: the reports of a call
+pub mod reports; // reports.rt: reports, and a list of them
 pub mod slots; // slots.rt: the conditions of the threads
+mod rules; // rules.rt: the questions asked of a record
+pub mod record; // record.rt: a call with its operand, or a report
+pub mod reporting; // reporting.rt: a machine with the reports of its latest call
 pub mod calls; // calls.rt: what each call does
-pub mod state; // state.rt: a machine with the reports that it owes
-pub mod rules; // rules.rt: the questions asked of a record
+pub mod heard; // heard.rt: reports, and records where reports are due
+pub mod quiet; // quiet.rt: Ticks at which nobody wakes
+pub mod state; // state.rt: a machine with the reports that it owes, as it is lent
 
 use lists::holds::Holds;
 use lists::queue::Queue;
@@ -19,7 +23,7 @@ pub struct Machine {
     pub plan: Plan,
     pub tick: Tick,
     pub slots: Slots,
-    pub wakes: [u32; 16],
+    pub wakes: [Tick; 16],
     pub queue: Queue,
     pub holds: Holds,
     pub waits: Queue,

@@ -1,8 +1,8 @@
-// The reports that a call makes due, in order: at most one for each thread, and a Switch.
+// The reports that a call makes due, in order: at most as many as there are threads, and a Switch.
 ghost use mathlib.Core.Path.{_≡_};
 ghost use mathlib.Core.List.{[], _∷_, _++_};
 ghost use Prim.Native.Nat.{_<_};
-ghost use Rattle.machine.specs.Lists.{reportOf, noReports, owed};
+ghost use Rattle.machine.specs.Lists.{reportOf, owed};
 
 // A kind by document 01's number, 16 to 20, and the thread that it names, 255 for nobody.
 #[repr(C)]
@@ -19,7 +19,7 @@ pub struct Reports {
 
 impl Reports {
     pub(crate) fn none() -> Reports
-        ensures { λ r. ⌜ r ≡ noReports ⌝ }
+        ensures { λ r. ⌜ owed r ≡ [] ⌝ }
     {
         let z = Report { kind: 0, who: 0 };
         Reports {

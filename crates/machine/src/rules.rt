@@ -1,24 +1,11 @@
-// The questions asked of a record behind 21: the number of the first No, 0 if there is none.
+// The questions asked of a record: the number of the first No, 0 if there is none.
 ghost use mathlib.Core.Path.{_≡_};
 ghost use Prim.Native.Nat.{_≤_, _<_};
-ghost use Rattle.machine.specs.Rules.{createRule, freeRule, takeRule, giveRule, runRule, reportRule};
+ghost use Rattle.machine.specs.Rules.{createRule, freeRule, takeRule, giveRule, runRule, dueRule};
 use crate::reports::Report;
 use crate::slots::Slots;
-use crate::time::Wait;
 use lists::holds::Holds;
 use plan::lookup::may_take;
-
-// A record of a dump: a call with its operand, or a report.
-pub enum Record {
-    Create(u8),
-    Delay(Wait),
-    Relinquish,
-    End,
-    Take(u8),
-    Give(u8),
-    Tick,
-    Report(Report),
-}
 
 // 22: does a thread run?
 pub(crate) fn run_rule(chosen: u8) -> u8
@@ -81,12 +68,15 @@ pub(crate) fn give_rule(holds: Holds, chosen: u8, section: u8) -> u8
     }
 }
 
-// 29 and 30: is the first due of this kind, and does it name this thread?
-pub fn report_rule(first: Report, given: Report) -> u8
-    ensures { λ r. ⌜ r ≡ reportRule first given ⌝ }
+// Where this report is due first: 21 of a call, and of a report 29 and 30: is the first due of this kind, and does it name this thread?
+pub(crate) fn due_rule(first: Report, kind: u8, who: u8) -> u8
+    ensures { λ r. ⌜ r ≡ dueRule first kind who ⌝ }
 {
-    if first.kind != given.kind {
+    if kind < 16 {
+        return 21;
+    }
+    if first.kind != kind {
         return 29;
     }
-    if first.who == given.who { 0 } else { 30 }
+    if first.who == who { 0 } else { 30 }
 }

@@ -1,10 +1,8 @@
 // The conditions of the threads.
 ghost use mathlib.Core.Path.{_≡_};
-ghost use mathlib.Core.Bool.{not, _&&_};
+ghost use mathlib.Core.Bool.{_&&_};
 ghost use Prim.Native.Nat.{_≤_, _<_};
 ghost use lib.Dec.{eqb};
-ghost use Rattle.model.specs.Searches.{all};
-ghost use Rattle.plan.specs.View.{inUse};
 ghost use Rattle.lists.specs.Words.{nibble};
 ghost use Rattle.machine.specs.View.{conditionsOf};
 ghost use Rattle.machine.specs.Contracts.{placed, waitsFor, soonest};
@@ -60,16 +58,16 @@ impl Slots {
     }
 
     // The least tick number that a sleeper waits for, LAST_WAKE where nobody sleeps before it.
-    pub(crate) fn soonest(self, wakes: [u32; 16], threads: usize) -> u32
+    pub(crate) fn soonest(self, wakes: [Tick; 16], threads: usize) -> Tick
         requires { ⌜ threads ≤ 16 ⌝ }
-        ensures { λ r. ⌜ r ≡ soonest (conditionsOf threads self wakes) ⌝ }
+        ensures { λ r. ⌜ r .0 ≡ soonest (conditionsOf threads self wakes) ⌝ }
     {
-        let mut first: u32 = LAST_WAKE;
+        let mut first = LAST_WAKE;
         let mut t: usize = 0;
         while t < threads {
             let state = nibble_at(self.states, t as u8);
             let wake = wakes[t];
-            if state == 2 && wake < first {
+            if state == 2 && wake.0 < first.0 {
                 first = wake;
             }
             t += 1;
@@ -79,23 +77,8 @@ impl Slots {
 }
 
 // Whether a thread in this condition sleeps until this tick number.
-pub(crate) fn sleeps_until(state: u8, wake: u32, number: Tick) -> bool
-    ensures { λ r. ⌜ r ≡ eqb state 2 && eqb wake (number .0) ⌝ }
+pub(crate) fn sleeps_until(state: u8, wake: Tick, number: Tick) -> bool
+    ensures { λ r. ⌜ r ≡ eqb state 2 && eqb (wake .0) (number .0) ⌝ }
 {
-    state == 2 && wake == number.0
-}
-
-// Whether none of sixteen tick numbers is this one: asked at once, without an early end.
-pub(crate) fn nobody_wakes(wakes: [u32; 16], number: Tick) -> bool
-    ensures { λ r. ⌜ r ≡ all (λ n. not (eqb n (number .0))) (inUse 16 wakes) ⌝ }
-{
-    let mut none = true;
-    let mut t: usize = 0;
-    while t < 16 {
-        if wakes[t] == number.0 {
-            none = false;
-        }
-        t += 1;
-    }
-    none
+    state == 2 && wake.0 == number.0
 }

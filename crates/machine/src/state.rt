@@ -1,12 +1,14 @@
-// A machine with the reports that it owes.
+// A machine with the reports that it owes, as it is lent.
 ghost use mathlib.Core.Path.{_≡_};
 ghost use lib.ListN.{length};
 ghost use Rattle.machine.specs.View.{view};
-ghost use Rattle.machine.specs.Steps.{Fresh, Owes, FirstDue, Delivers, Beats, Stays, stateOf};
+ghost use Rattle.machine.specs.Contracts.{Fresh, Owes, FirstDue, Delivers, opened};
+ghost use Rattle.machine.specs.Calls.{Apart, Closes};
 use crate::Machine;
-use crate::calls::Called;
+use crate::reporting::Reporting;
 use crate::reports::Report;
 use crate::reports::Reports;
+use crate::time::Tick;
 use plan::Plan;
 
 // The reports due are those behind the first `given`.
@@ -39,19 +41,6 @@ impl State {
         if at < n { n - at } else { 0 }
     }
 
-    // Whether a Tick now moves the tick number alone: see Contracts.Still.
-    pub fn is_still(self) -> bool
-        requires { ⌜ Beats self ⌝ }
-        ensures { λ r. ⌜ Stays r self ⌝ }
-    {
-        let due = self.due;
-        if self.given < due.count {
-            return false;
-        }
-        let m = self.machine;
-        m.is_still()
-    }
-
     // The report due first.
     pub fn first_due(self) -> Report
         requires { ⌜ Owes self ⌝ }
@@ -80,36 +69,48 @@ impl State {
         }
     }
 
-    // Its parts side by side, to be walked on from.
-    pub fn opened(self) -> Called
-        ensures { λ r. ⌜ r ≡ record { machine = self .machine; reports = self .due .items; count = self .due .count; rule = 0 } ⌝ }
+    // To be moved on from, with its chosen thread: all reports stand in the array, and who sleeps soonest is not known.
+    pub fn opened(self, chosen: u8) -> Reporting
+        ensures { λ r. ⌜ r ≡ opened self chosen ⌝ }
     {
         let machine = self.machine;
-        let due = self.due;
-        let reports = due.items;
-        Called {
+        let rs = self.due;
+        let reports = rs.items;
+        Reporting {
             machine,
             reports,
-            count: due.count,
+            count: rs.count,
+            due: rs.count,
+            given: self.given,
+            chosen,
+            quiet: Tick(0),
             rule: 0,
         }
     }
 }
 
-impl Called {
-    // The state again, with so many reports given.
-    pub fn closed(self, given: usize) -> State
-        ensures { λ r. ⌜ r ≡ stateOf self given ⌝ }
+impl Reporting {
+    // As it is lent: a Switch that is due stands in the array behind the other reports.
+    pub fn closed(self) -> State
+        requires { ⌜ Apart self ⌝ }
+        ensures { λ r. ⌜ Closes r self ⌝ }
     {
         let machine = self.machine;
-        let items = self.reports;
+        let mut items = self.reports;
+        let n = self.count;
+        if n < self.due {
+            items[n] = Report {
+                kind: 17,
+                who: self.chosen,
+            };
+        }
         State {
             machine,
             due: Reports {
                 items,
-                count: self.count,
+                count: self.due,
             },
-            given,
+            given: self.given,
         }
     }
 }

@@ -1,16 +1,16 @@
 -- What the answers to questions say.
-use mathlib.Core.Path.{_≡_, refl}
+use mathlib.Core.Path.{_≡_, refl, ap, sym}
 use mathlib.Core.Bool.{Bool, true, false, cond, _&&_}
 use mathlib.Core.List.{List, [], _∷_, map}
-use mathlib.Core.Option.{none, some}
-use Prim.Native.Nat.{ℕ, _≤_}
+use mathlib.Core.Option.{Option, none, some}
+use Prim.Native.Nat.{ℕ, _≤_, _<_}
 use native.Mathlib.Omega.{arith}
-use lib.Dec.{T, eqb, leb, ltb, eqb-refl, leb→le, eqb→eq, ltb→lt}
+use lib.Dec.{T, not-T, eqb, leb, ltb, eqb-refl, leb→le, eqb→eq, ltb→lt}
 use lib.ListN.{length}
 use Rattle.model.specs.Searches.{all, upTo}
 use Rattle.model.specs.Plan.{validPlan}
 use Rattle.model.specs.Rules.{Question, firstNo}
-use Rattle.model.proofs.Tests.{is-true, and-left, and-right}
+use Rattle.model.proofs.Tests.{is-true, is-false, and-left, and-right}
 use Rattle.model.proofs.Laws.{all-yes}
 use Rattle.plan.specs.Bytes.{threadCount, sectionCount, between, inRange, isPriority, needsWithin, hasCounts, hasLength, hasPriorities, hasNeeds, questions, refusal, number, Whole}
 use Rattle.model.proofs.Loops.{and-true, length-listed}
@@ -23,6 +23,20 @@ zero-none (q ∷ qs) t e = go (q .answer) (zero-none qs (and-right (ltb 0 (q .nu
     go : (b : Bool) → (number (firstNo qs) ≡ 0 → firstNo qs ≡ none) → number (cond b (firstNo qs) (some (q .number))) ≡ 0 → cond b (firstNo qs) (some (q .number)) ≡ none
     go true k e = k e
     go false k e = absurd (omega (arith, ltb→lt 0 (q .number) (and-left (ltb 0 (q .number)) _ t)))
+
+-- an answer as a number other than 0 is the number of a No
+pub number-some : (o : Option ℕ) (n : ℕ) → n ≡ number o → (n ≡ 0 → ⊥) → o ≡ some n
+number-some none n e d = absurd (d e)
+number-some (some m) n e d = ap {B = Option ℕ} some (sym e)
+
+-- where no question has a number above the greatest, neither has the first No
+pub first-within : (greatest : ℕ) (qs : List Question) (n : ℕ) → T (all (λ q. leb (q .number) greatest) qs) → firstNo qs ≡ some n → n ≤ greatest
+first-within g [] n t e = let z : _≡_ {A = ℕ} 0 1 = cc in absurd (omega arith)
+first-within g (q ∷ qs) n t e = go (q .answer) (first-within g qs n (and-right (leb (q .number) g) _ t)) e
+  where
+    go : (b : Bool) → (firstNo qs ≡ some n → n ≤ g) → cond b (firstNo qs) (some (q .number)) ≡ some n → n ≤ g
+    go true k e = k e
+    go false k e = let same : q .number ≡ n = cc in omega (arith, leb→le (q .number) g (and-left (leb (q .number) g) _ t))
 
 -- bytes that nothing refuses have the answer Yes to each question
 pub record Accepted (bytes : List ℕ) : Type 0 where
@@ -40,6 +54,11 @@ pub in-range : (threads sections : ℕ) → T (inRange threads sections) → (th
 in-range t s h =
     let b : T (between 1 16 t) = and-left (between 1 16 t) (leb s 16) h in
     (leb→le t 16 (and-right (leb 1 t) (leb t 16) b), leb→le s 16 (and-right (between 1 16 t) (leb s 16) h))
+
+-- more than 16 threads are refused by question 1
+pub many-threads : (bytes : List ℕ) → 16 < threadCount bytes → refusal bytes ≡ some 1
+unfolding refusal questions
+many-threads bytes h = rw (is-false (hasCounts bytes) (not-T (hasCounts bytes) (λ c. omega (arith, in-range (threadCount bytes) (sectionCount bytes) (and-right (leb 2 (length bytes)) _ c) .0))))
 
 pub has-two : (bytes : List ℕ) → T (hasCounts bytes) → 2 ≤ length bytes
 has-two bytes c = leb→le 2 (length bytes) (and-left (leb 2 (length bytes)) _ c)

@@ -2,8 +2,8 @@
 use mathlib.Core.Path.{_≡_, subst}
 use mathlib.Core.Bool.{Bool, _&&_}
 use mathlib.Core.List.{List, map}
-use mathlib.Core.Option.{none}
-use Prim.Native.Nat.{ℕ, zero, suc, _+_, _<_}
+use mathlib.Core.Option.{none, some}
+use Prim.Native.Nat.{ℕ, zero, suc, _+_, _≤_, _<_}
 use native.Mathlib.Omega.{arith}
 use lib.Dec.{T, leb, leb→le}
 use lib.ListN.{length, getD}
@@ -17,7 +17,7 @@ use Rattle.model.proofs.Loops.{listed, length-listed}
 use Rattle.plan.proofs.Answers.{valid-listed}
 use Rattle.plan.proofs.Entries.{valid-view}
 -- what the answers to questions say, of any questions and of those of a plan
-pub use Rattle.plan.proofs.Answers.{zero-none, in-range, accepted, whole}
+pub use Rattle.plan.proofs.Answers.{zero-none, number-some, first-within, in-range, many-threads, accepted, whole}
 -- base and needs of a thread, from the parts of the struct that they are read from
 pub use Rattle.plan.proofs.Entries.{base-view, mayTake-view}
 -- question 4 in its own words
@@ -30,6 +30,11 @@ pub refusal-zero : (bytes : List ℕ) → number (refusal bytes) ≡ 0 → refus
 unfolding refusal questions
 refusal-zero bytes e = zero-none (questions bytes) tt e
 
+-- what refuses a plan's bytes is one of questions 1 to 4
+pub refusal-within : (bytes : List ℕ) (q : ℕ) → refusal bytes ≡ some q → q ≤ 4
+unfolding refusal questions
+refusal-within bytes q e = first-within 4 (questions bytes) q tt e
+
 -- bytes that nothing refuses stand for a valid plan
 pub refusal-none-valid : (bytes : List ℕ) → refusal bytes ≡ none → T (model.validPlan (planOf bytes))
 refusal-none-valid bytes e =
@@ -39,7 +44,11 @@ refusal-none-valid bytes e =
     rw (valid-listed (threadCount bytes) (sectionCount bytes) (baseAt bytes) (needsAt bytes))
     (and-both (counts && hasPriorities bytes) (hasNeeds bytes) (and-both counts (hasPriorities bytes) first (a .priorities)) (a .needs))
 
--- a struct's plan has as many threads as the struct says
+-- bytes, and a struct, stand for a plan with as many threads as they say
+
+pub threads-bytes : (bytes : List ℕ) → model.threads (planOf bytes) ≡ threadCount bytes
+threads-bytes bytes = length-listed (baseAt bytes) (threadCount bytes)
+
 pub threads-view : (p : Plan) → model.threads (view p) ≡ p .threads
 threads-view p = length-listed (λ t. getD (p .bases) t 0) (p .threads)
 

@@ -1,21 +1,15 @@
--- The plan's bytes, in the order of document 01, "The plan" and questions 1 to 4. A byte past the end counts as 0.
+-- The plan's bytes, in the order of document 01, "The plan" and questions 1 to 4.
 use mathlib.Core.Path.{_≡_}
 use mathlib.Core.Bool.{Bool, _&&_}
 use mathlib.Core.List.{List, [], _∷_, map}
 use mathlib.Core.Option.{Option, none, some}
 use Prim.Native.Nat.{ℕ, _+_, _*_, _^_, _≤_, min}
 use lib.Dec.{eqb, leb, ltb}
-use lib.ListN.{length, getD}
+use lib.ListN.{length}
 use Rattle.model.specs.Searches.{all, upTo}
 use Rattle.model.specs.Plan.{Plan}
 use Rattle.model.specs.Rules.{Question, _asks_, firstNo}
-
-abbrev pub byte : List ℕ → (place : ℕ) → ℕ
-byte bytes place = getD bytes place 0
-
--- two bytes, low byte first
-abbrev pub word : List ℕ → (place : ℕ) → ℕ
-word bytes place = byte bytes place + 256 * byte bytes (place + 1)
+use Rattle.plan.specs.Words.{byte, word}
 
 -- Byte 0 is T, the threads; byte 1 is S, the sections.
 abbrev pub threadCount : List ℕ → ℕ

@@ -1,12 +1,14 @@
 // The plan's bytes: what refuses them, and the plan that they stand for.
 ghost use mathlib.Core.Path.{_≡_};
 ghost use mathlib.Core.Option.{none};
-ghost use Prim.Native.Nat.{_+_, _≤_, _<_};
+ghost use Prim.Native.Nat.{_≤_, _<_};
 ghost use lib.ListN.{length};
-ghost use Rattle.plan.specs.Bytes.{byte, word, threadCount, planOf, hasCounts, hasLength, hasPriorities, hasNeeds, refusal, number, Whole};
+ghost use Rattle.plan.specs.Bytes.{threadCount, planOf, hasCounts, hasLength, hasPriorities, hasNeeds, refusal, number, Whole};
 ghost use Rattle.plan.specs.View.{inUse, Made};
+ghost use Rattle.plan.specs.Words.{byte};
 use crate::Plan;
 use crate::questions;
+use crate::words::word_at;
 
 // The byte at a place.
 fn byte_at(bytes: &[u8], place: usize) -> usize
@@ -14,16 +16,6 @@ fn byte_at(bytes: &[u8], place: usize) -> usize
     ensures { λ r. ⌜ r ≡ byte (now (bytes .entry)) place ⌝ }
 {
     bytes[place] as usize
-}
-
-// Two bytes at a place, low byte first.
-pub fn word_at(bytes: &[u8], place: usize) -> u16
-    requires { ⌜ place + 1 < length (now bytes) ⌝ }
-    ensures { λ r. ⌜ r ≡ word (now (bytes .entry)) place ⌝ }
-{
-    let low = bytes[place] as u16;
-    let high = bytes[place + 1] as u16;
-    low + 256 * high
 }
 
 // The base priorities, one for each thread.

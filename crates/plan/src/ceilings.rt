@@ -9,13 +9,7 @@ ghost use Rattle.model.specs.Plan.{bit, ceiling};
 ghost use Rattle.plan.specs.View.{view, Fits};
 use crate::Plan;
 use crate::lookup::needs_bit;
-
-// The greater of two numbers.
-pub fn greater(a: u8, b: u8) -> u8
-    ensures { λ r. ⌜ r ≡ max a b ⌝ }
-{
-    if a < b { b } else { a }
-}
+use crate::order::greater;
 
 // The greatest base so far, with one more thread: its base counts if it needs the section.
 fn raise(top: u8, base: u8, needs: u16, section: u8) -> u8

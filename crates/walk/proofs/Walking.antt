@@ -1,34 +1,36 @@
--- A walk over records, turn by turn: what its loop keeps, that every step on the way may be taken, and that it ends where the run does.
+-- A walk over records, turn by turn: what its loop keeps, that every record on the way may be asked about, and that it ends where the run does.
 use mathlib.Core.Path.{_≡_, refl, ap, sym, subst, _∙_}
 use mathlib.Core.Logic.{_⊎_, inl, inr, _≢_}
+use mathlib.Core.Bool.{cond}
 use mathlib.Core.List.{List, [], _∷_, map}
 use Prim.Native.Nat.{ℕ, suc, _+_, _-_, _≤_, _<_}
 use native.Mathlib.Numerals.{add-one}
 use native.Mathlib.Omega.{arith}
 use borrow.Author.Tests.{eq-eqb, ne-eqb}
-use lib.Dec.{T}
+use lib.Dec.{T, eqb}
 use lib.ListN.{length}
-use Rattle.model.specs.Searches.{upTo}
 use Rattle.model.specs.Plan as model
 use Rattle.model.specs.Records as records
 use Rattle.model.specs.State as state
 use Rattle.model.specs.Priorities.{chosen}
 use Rattle.model.specs.Runs.{Outcome, moved, broke, step, Verdict, clean, breach, run}
 use Rattle.model.specs.Formed.{lastTick, formed}
-use Rattle.model.proofs.Searches.{all-at, in-upTo}
-use Rattle.model.proofs.Laws.{run-ended, run-moved, run-broke, Reached, next, tick-at-most}
+use Rattle.model.proofs.Laws.{run-ended, run-moved, run-broke, Reached, next, tick-at-most, reached-formed}
+use Rattle.model.proofs.Loops.{left, turn, done}
 use Rattle.plan.specs.View as plans
 use Rattle.plan.specs.declared.Plan.{Plan}
-use Rattle.model.proofs.Loops.{left, begin, turn, done}
 use Rattle.plan.proofs.Laws.{threads-view, valid-fits}
+use Rattle.machine.specs.declared.Machine.{Machine}
 use Rattle.machine.specs.declared.state.State.{State}
+use Rattle.machine.specs.declared.reporting.Reporting.{Reporting}
 use Rattle.machine.specs.Lists.{numbered}
-use Rattle.machine.specs.View.{planOf, view}
-use Rattle.machine.specs.Steps.{Steps, Answers}
-use Rattle.machine.proofs.Laws.{stands-formed, ceilings-of, answers-moved, answers-broke}
-use Rattle.dump.specs.Layout.{recordCount, kindAt, operandAt, recordOf, decode, kindOf}
+use Rattle.machine.specs.View.{planOf, view, shown}
+use Rattle.machine.specs.Contracts.{opened}
+use Rattle.machine.specs.Calls.{Stands, Asks, Answers, Closes}
+use Rattle.machine.proofs.Laws.{ceilings-of, opened-shown, opened-stands, answers-moved, answers-broke}
+use Rattle.dump.specs.Layout.{recordCount, kindAt, operandAt, recordOf, recordAt, part, kindOf}
 use Rattle.dump.specs.Questions.{operandFits}
-use Rattle.dump.proofs.Laws.{fits-kind, kind-back, allowed-back, wider, entryAt}
+use Rattle.dump.proofs.Laws.{fits-kind, kind-back, allowed-back, wider}
 use Rattle.walk.specs.Contracts.{ends, Runs, Lent, Walks, WalkEnds}
 
 -- the verdict of a run whose first record has number i, and the state in which it ends
@@ -53,138 +55,167 @@ module _ (p : model.Plan) (i : ℕ) (r : records.Record) (rs : List records.Reco
   finish-broke : (n : ℕ) → step p st r ≡ broke n → finish p i (r ∷ rs) st ≡ (breach i n, st)
   finish-broke n e = rw (run-broke p i r rs st n e, ends-by (broke n) e)
 
--- Before record i of a walk from a state `first`: the records left lead from here where all of them lead from there.
-pub record Walking (first : State) (bytes : List ℕ) (s : State) (who i : ℕ) : Type 0 where
-  pub plan' : s .machine .plan ≡ first .machine .plan
-  pub leads : finish (planOf (s .machine)) i (map (entryAt bytes) (left i (recordCount bytes))) (view s) ≡ finish (planOf (first .machine)) 0 (decode bytes) (view first)
-  pub chosen' : who ≡ numbered (chosen (planOf (s .machine)) (view s))
-  pub kept : i ≡ 0 → s ≡ first
-  -- a lent state has one record: what is known of it is known before record 0, where `kept` says that it is here
-  pub safe : Runs s (recordCount bytes - i) ⊎ Lent first bytes
+-- Before record i of a walk, under a plan and from a state: the records left lead from here where all of them lead from there.
+pub record Walking (plan : Plan) (st : state.State) (bytes : List ℕ) (from to : ℕ) (c : Reporting) (i : ℕ) : Type 0 where
+  pub plan' : c .machine .plan ≡ plan
+  pub leads : finish (planOf (c .machine)) i (map (recordAt bytes) (left i to)) (shown c) ≡ finish (plans.view plan) from (part bytes from to) st
+  pub stands : Stands c
+  pub onward' : from ≤ i
+  pub kept : i ≡ from → shown c ≡ st
+  -- a lent state has one record: what is known of it is known before that record, where `kept` says that it is here
+  pub safe : Runs (planOf (c .machine)) (shown c) (to - i) ⊎ Lent (plans.view plan) st bytes from to
 
-module _ {first : State} {ceilings : List ℕ} {who₀ : ℕ} {bytes : List ℕ} {n : ℕ} (a : Walks first ceilings who₀ bytes n) where
-  pub walk-begins : Walking first bytes first who₀ 0
-  walk-begins =
-      record {
+-- record i, by its two numbers
+pub walk-record : (bytes : List ℕ) (i : ℕ) {kind operand : ℕ} → (kind ≡ kindAt bytes i) × (operand ≡ operandAt bytes i) → recordOf kind operand ≡ recordAt bytes i
+walk-record bytes i o = rw (o .0, o .1)
+
+-- of the state that came, and of that state opened: the same walk
+
+same : {s : State} {who : ℕ} {o : Reporting} → o ≡ opened s who → o .machine .plan ≡ s .machine .plan
+same e = ap (λ (x : Reporting). x .machine .plan) e
+
+module _ (s : State) (who : ℕ) {o : Reporting} (e : o ≡ opened s who) {bytes : List ℕ} {from to : ℕ} {c : Reporting} {i : ℕ} where
+  pub as-came : Walking (o .machine .plan) (shown o) bytes from to c i → Walking (s .machine .plan) (view s) bytes from to c i
+  as-came w = subst (λ (st : state.State). Walking (s .machine .plan) st bytes from to c i) (ap shown e ∙ opened-shown s who) (subst (λ (p : Plan). Walking p (shown o) bytes from to c i) (same e) w)
+
+  pub as-opened : Walking (s .machine .plan) (view s) bytes from to c i → Walking (o .machine .plan) (shown o) bytes from to c i
+  as-opened w = subst (λ (p : Plan). Walking p (shown o) bytes from to c i) (sym (same e)) (subst (λ (st : state.State). Walking (s .machine .plan) st bytes from to c i) (sym (ap shown e ∙ opened-shown s who)) w)
+
+module _ {first : State} {ceilings : List ℕ} {who : ℕ} {bytes : List ℕ} {from to : ℕ} (a : Walks first ceilings who bytes from to) where
+  pub walk-begins : {c : Reporting} → c ≡ opened first who → Walking (first .machine .plan) (view first) bytes from to c from
+  walk-begins e = subst (λ (c : Reporting). Walking (first .machine .plan) (view first) bytes from to c from) (sym e)
+      (record {
         plan' = refl;
-        leads = begin (λ l. finish (planOf (first .machine)) 0 (map (entryAt bytes) l) (view first)) (recordCount bytes);
-        chosen' = a .chosen';
-        kept = λ z. refl;
+        leads = ap (finish (planOf (first .machine)) from (part bytes from to)) (opened-shown first who);
+        stands = opened-stands first who (a .chosen');
+        onward' = omega arith;
+        kept = λ z. opened-shown first who;
         safe = go (a .safe);
-      }
+      })
     where
-      go : Runs first n ⊎ Lent first bytes → Runs first (recordCount bytes - 0) ⊎ Lent first bytes
-      go (inl r) = let e : n ≡ recordCount bytes - 0 = omega (arith, a .count) in inl (subst (Runs first) e r)
+      p : model.Plan
+      p = planOf (first .machine)
+
+      go : Runs p (view first) (to - from) ⊎ Lent p (view first) bytes from to → Runs p (shown (opened first who)) (to - from) ⊎ Lent p (view first) bytes from to
+      go (inl r) = inl (subst (λ (st : state.State). Runs p st (to - from)) (sym (opened-shown first who)) r)
       go (inr l) = inr l
 
-  module _ {s : State} {who i : ℕ} (w : Walking first bytes s who i) where
+  module _ {c : Reporting} {i : ℕ} (w : Walking (first .machine .plan) (view first) bytes from to c i) where
+    same-plan : planOf (c .machine) ≡ planOf (first .machine)
+    same-plan = ap plans.view (w .plan')
+
+    -- where the walk ends, with its verdict: here, or at the record that breaks a rule
+    ended : {after : Reporting} {s : State} {at : ℕ} → after .machine .plan ≡ first .machine .plan → Stands after → Closes s after
+        → (cond (eqb (after .rule) 0) (clean at (length (shown after .due))) (breach at (after .rule)), shown after) ≡ finish (planOf (first .machine)) from (part bytes from to) (view first)
+        → WalkEnds (record { state = s; chosen = after .chosen; at = at; rule = after .rule }) first bytes from to
+    ended {after} {s} {at} q st k z =
+        record {
+          plan' = ap (λ (m : Machine). m .plan) (k .machine') ∙ q;
+          verdict = ap (λ (x : state.State). cond (eqb (after .rule) 0) (clean at (length (x .due))) (breach at (after .rule))) (k .seen) ∙ ap (λ f. f .0) z;
+          state' = k .seen ∙ ap (λ f. f .1) z;
+          chosen' = st .chosen' ∙ ap (λ (x : model.Plan). numbered (chosen x (shown after))) (ap plans.view q) ∙ ap (λ (x : state.State). numbered (chosen (planOf (first .machine)) x)) (sym (k .seen));
+        }
+
     -- behind the last record
-    pub walk-ends : {rule : ℕ} → rule ≡ 0 → n ≤ i → WalkEnds (record { state = s; chosen = who; at = i; rule = rule }) first bytes
-    walk-ends {rule} e h =
-        let z = sym (finish-ended (planOf (s .machine)) i (view s))
-        ∙ sym (done (λ l. finish (planOf (s .machine)) i (map (entryAt bytes) l) (view s)) (recordCount bytes) i (omega (arith, a .count)))
-        ∙ w .leads in
-        record { plan' = w .plan'; verdict = rw (eq-eqb rule 0 e) (ap (λ f. f .0) z); state' = ap (λ f. f .1) z; chosen' = w .chosen' ∙ ap (λ (q : Plan). numbered (chosen (plans.view q) (view s))) (w .plan') }
+    pub walk-ends : c .rule ≡ 0 → to ≤ i → {s : State} → Closes s c → WalkEnds (record { state = s; chosen = c .chosen; at = i; rule = c .rule }) first bytes from to
+    walk-ends e h k =
+        ended (w .plan') (w .stands) k
+        (ap (λ b. (cond b (clean i (length (shown c .due))) (breach i (c .rule)), shown c)) (eq-eqb (c .rule) 0 e)
+        ∙ sym (finish-ended (planOf (c .machine)) i (shown c))
+        ∙ sym (done (λ l. finish (planOf (c .machine)) i (map (recordAt bytes) l) (shown c)) to i h)
+        ∙ w .leads)
 
     -- at record i
-    module _ (h : i < n) where
-      below : i < recordCount bytes
-      below = omega (arith, a .count)
+    module _ (h : i < to) where
+      -- it may be read
+      pub walk-within : i < recordCount bytes
+      walk-within = omega (arith, h, a .within)
 
-      valid : T (model.validPlan (planOf (s .machine)))
+      valid : T (model.validPlan (planOf (c .machine)))
       valid = subst (λ (q : Plan). T (model.validPlan (plans.view q))) (sym (w .plan')) (a .valid)
 
-      fits : T (operandFits (s .machine .plan .threads) (s .machine .plan .sections) (kindAt bytes i) (operandAt bytes i))
-      fits =
-          subst (λ (q : Plan). T (operandFits (q .threads) (q .sections) (kindAt bytes i) (operandAt bytes i))) (sym (w .plan'))
-          (all-at (λ j. operandFits (first .machine .plan .threads) (first .machine .plan .sections) (kindAt bytes j) (operandAt bytes j))
-          (upTo (recordCount bytes)) (a .operands) (in-upTo (recordCount bytes) i below))
+      fits : T (operandFits (c .machine .plan .threads) (c .machine .plan .sections) (kindAt bytes i) (operandAt bytes i))
+      fits = subst (λ (q : Plan). T (operandFits (q .threads) (q .sections) (kindAt bytes i) (operandAt bytes i))) (sym (w .plan')) (a .operands i (w .onward') h)
 
-      allowed : T (records.allowed (planOf (s .machine)) (entryAt bytes i))
-      allowed = allowed-back (planOf (s .machine)) (kindAt bytes i) (operandAt bytes i) (rw (threads-view (s .machine .plan)) fits)
+      allowed : T (records.allowed (planOf (c .machine)) (recordAt bytes i))
+      allowed = allowed-back (planOf (c .machine)) (kindAt bytes i) (operandAt bytes i) (rw (threads-view (c .machine .plan)) fits)
+
+      -- the first record of a lent state is its only one
+      lent-here : Lent (planOf (first .machine)) (view first) bytes from to → i ≡ from
+      lent-here l = omega (arith, h, w .onward', l .single)
 
       -- a state on the way is well formed, and has room for its Tick
-      formed-here : T (formed (planOf (s .machine)) (view s))
+      formed-here : T (formed (planOf (c .machine)) (shown c))
       formed-here = go (w .safe)
         where
-          go : Runs s (recordCount bytes - i) ⊎ Lent first bytes → T (formed (planOf (s .machine)) (view s))
-          go (inl r) = stands-formed s valid (r .reached) (omega (arith, r .room))
-          go (inr l) = subst (λ (x : State). T (formed (planOf (x .machine)) (view x))) (sym (w .kept (omega (arith, below, l .single)))) (l .formed')
+          go : Runs (planOf (c .machine)) (shown c) (to - i) ⊎ Lent (planOf (first .machine)) (view first) bytes from to → T (formed (planOf (c .machine)) (shown c))
+          go (inl r) = reached-formed (planOf (c .machine)) valid (shown c) (r .reached) (omega (arith, r .room))
+          go (inr l) = subst (λ (p : model.Plan). T (formed p (shown c))) (sym same-plan) (subst (λ (st : state.State). T (formed (planOf (first .machine)) st)) (sym (w .kept (lent-here l))) (l .formed'))
 
-      room-here : kindAt bytes i ≡ 7 → view s .tickNumber < lastTick
+      room-here : kindAt bytes i ≡ 7 → c .machine .tick .0 < lastTick
       room-here k = go (w .safe)
         where
-          go : Runs s (recordCount bytes - i) ⊎ Lent first bytes → view s .tickNumber < lastTick
-          go (inl r) = omega (arith, r .room, below)
+          go : Runs (planOf (c .machine)) (shown c) (to - i) ⊎ Lent (planOf (first .machine)) (view first) bytes from to → c .machine .tick .0 < lastTick
+          go (inl r) = omega (arith, r .room, h)
           go (inr l) =
-              let z : i ≡ 0 = omega (arith, below, l .single) in
-              subst (λ (x : State). view x .tickNumber < lastTick) (sym (w .kept z)) (l .room (ap (kindAt bytes) (sym z) ∙ k))
+              let z = lent-here l in
+              omega (arith, l .room (ap (kindAt bytes) (sym z) ∙ k), ap (λ (st : state.State). st .tickNumber) (w .kept z))
 
-      module _ {kind operand : ℕ} (o : (kind ≡ kindAt bytes i) × (operand ≡ operandAt bytes i)) where
-        -- record i may be read
-        pub walk-reads : T (operandFits 16 16 kind operand)
-        walk-reads =
-            let f = valid-fits (s .machine .plan) valid in
-            rw (o .0, o .1) (wider (s .machine .plan .threads) (s .machine .plan .sections) 16 16 (kindAt bytes i) (operandAt bytes i) (f .threads) (f .sections) fits)
+      -- its two numbers are those of a record that the machine can read
+      pub walk-reads : {kind operand : ℕ} → (kind ≡ kindAt bytes i) × (operand ≡ operandAt bytes i) → T (operandFits 16 16 kind operand)
+      walk-reads o =
+          let f = valid-fits (c .machine .plan) valid in
+          rw (o .0, o .1) (wider (c .machine .plan .threads) (c .machine .plan .sections) 16 16 (kindAt bytes i) (operandAt bytes i) (f .threads) (f .sections) fits)
 
-        -- it is record i
-        pub walk-record : recordOf kind operand ≡ entryAt bytes i
-        walk-record = rw (o .0, o .1)
-
-        pub walk-fits : T (operandFits (s .machine .plan .threads) (s .machine .plan .sections) kind operand)
-        walk-fits = rw (o .0, o .1) fits
-
-      -- and it may be stepped over
-      pub walk-steps : Steps s ceilings who (entryAt bytes i)
-      walk-steps =
+      -- and the machine may be asked about it
+      pub walk-asks : Asks c ceilings (recordAt bytes i)
+      walk-asks =
           record {
-            formed = formed-here;
-            ceilings' = ceilings-of (s .machine) (first .machine .plan) ceilings (w .plan') (a .ceilings');
-            chosen' = w .chosen';
-            allowed = allowed;
-            tick = λ t. room-here (sym (kind-back (kindAt bytes i) (operandAt bytes i) (fits-kind _ _ (kindAt bytes i) (operandAt bytes i) fits)) ∙ ap kindOf t);
+            formed' = formed-here;
+            stands = w .stands;
+            ceilings' = ceilings-of (c .machine) (first .machine .plan) ceilings (w .plan') (a .ceilings');
+            allowed' = allowed;
+            tick' = λ t. room-here (sym (kind-back (kindAt bytes i) (operandAt bytes i) (fits-kind _ _ (kindAt bytes i) (operandAt bytes i) fits)) ∙ ap kindOf t);
           }
 
-      module _ {after : State} {who' rule : ℕ} (b : Answers after who' rule s (entryAt bytes i)) where
-        turned : finish (planOf (s .machine)) i (entryAt bytes i ∷ map (entryAt bytes) (left (i + 1) (recordCount bytes))) (view s) ≡ finish (planOf (first .machine)) 0 (decode bytes) (view first)
-        turned = sym (turn (λ l. finish (planOf (s .machine)) i (map (entryAt bytes) l) (view s)) (recordCount bytes) i below) ∙ w .leads
+      module _ {after : Reporting} (b : Answers after c (recordAt bytes i)) where
+        turned : finish (planOf (c .machine)) i (recordAt bytes i ∷ map (recordAt bytes) (left (i + 1) to)) (shown c) ≡ finish (planOf (first .machine)) from (part bytes from to) (view first)
+        turned = sym (turn (λ l. finish (planOf (c .machine)) i (map (recordAt bytes) l) (shown c)) to i h) ∙ w .leads
 
         -- the record breaks a rule
-        pub walk-breaks : rule ≢ 0 → WalkEnds (record { state = after; chosen = who'; at = i; rule = rule }) first bytes
-        walk-breaks d =
-            let z = sym (finish-broke (planOf (s .machine)) i (entryAt bytes i) _ (view s) rule (answers-broke b d)) ∙ turned in
-            record {
-              plan' = b .plan' ∙ w .plan';
-              verdict = rw (ne-eqb rule 0 d) (ap (λ f. f .0) z);
-              state' = b .kept d ∙ ap (λ f. f .1) z;
-              chosen' = b .chosen' ∙ ap (λ (q : Plan). numbered (chosen (plans.view q) (view after))) (w .plan');
-            }
+        pub walk-breaks : after .rule ≢ 0 → {s : State} → Closes s after → WalkEnds (record { state = s; chosen = after .chosen; at = i; rule = after .rule }) first bytes from to
+        walk-breaks d k =
+            ended (b .plan' ∙ w .plan') (b .stands') k
+            (ap (λ x. (cond x (clean i (length (shown after .due))) (breach i (after .rule)), shown after)) (ne-eqb (after .rule) 0 d)
+            ∙ ap (λ (st : state.State). (breach i (after .rule), st)) (b .kept d)
+            ∙ sym (finish-broke (planOf (c .machine)) i (recordAt bytes i) (map (recordAt bytes) (left (i + 1) to)) (shown c) (after .rule) (answers-broke b d)) ∙ turned)
 
         -- the record moves the machine
-        pub walk-moves : rule ≡ 0 → Walking first bytes after who' (i + 1)
+        pub walk-moves : after .rule ≡ 0 → Walking (first .machine .plan) (view first) bytes from to after (i + 1)
         walk-moves k =
             record {
               plan' = b .plan' ∙ w .plan';
-              leads = ap (λ (p : model.Plan). finish p (i + 1) rest (view after)) plan-same ∙ ap (λ j. finish (planOf (s .machine)) j rest (view after)) (add-one i)
-                  ∙ sym (finish-moved (planOf (s .machine)) i (entryAt bytes i) rest (view s) (view after) moves-it) ∙ turned;
-              chosen' = b .chosen' ∙ ap (λ (p : model.Plan). numbered (chosen p (view after))) (sym plan-same);
-              kept = λ z. absurd (omega arith);
+              leads = ap (λ (p : model.Plan). finish p (i + 1) rest (shown after)) plan-same ∙ ap (λ j. finish (planOf (c .machine)) j rest (shown after)) (add-one i)
+                  ∙ sym (finish-moved (planOf (c .machine)) i (recordAt bytes i) rest (shown c) (shown after) moves-it) ∙ turned;
+              stands = b .stands';
+              onward' = omega (arith, w .onward');
+              kept = λ z. absurd (omega (arith, w .onward'));
               safe = go (w .safe);
             }
           where
             rest : List records.Record
-            rest = map (entryAt bytes) (left (i + 1) (recordCount bytes))
+            rest = map (recordAt bytes) (left (i + 1) to)
 
-            plan-same : planOf (after .machine) ≡ planOf (s .machine)
+            plan-same : planOf (after .machine) ≡ planOf (c .machine)
             plan-same = ap plans.view (b .plan')
 
-            moves-it : step (planOf (s .machine)) (view s) (entryAt bytes i) ≡ moved (view after)
+            moves-it : step (planOf (c .machine)) (shown c) (recordAt bytes i) ≡ moved (shown after)
             moves-it = answers-moved b k
 
-            go : Runs s (recordCount bytes - i) ⊎ Lent first bytes → Runs after (recordCount bytes - (i + 1)) ⊎ Lent first bytes
-            go (inl c) =
+            go : Runs (planOf (c .machine)) (shown c) (to - i) ⊎ Lent (planOf (first .machine)) (view first) bytes from to → Runs (planOf (after .machine)) (shown after) (to - (i + 1)) ⊎ Lent (planOf (first .machine)) (view first) bytes from to
+            go (inl r) =
                 inl (record {
-                  reached = subst (λ (p : model.Plan). Reached p (view after)) (sym plan-same) (next (entryAt bytes i) (c .reached) allowed moves-it);
-                  room = omega (arith, c .room, below, tick-at-most (planOf (s .machine)) (view s) (c .reached) (entryAt bytes i) (view after) moves-it);
+                  reached = subst (λ (p : model.Plan). Reached p (shown after)) (sym plan-same) (next (recordAt bytes i) (r .reached) allowed moves-it);
+                  room = omega (arith, r .room, h, tick-at-most (planOf (c .machine)) (shown c) (r .reached) (recordAt bytes i) (shown after) moves-it);
                 })
             go (inr l) = inr l

@@ -1,15 +1,19 @@
 //! The proved kernel watch and bench kernel of a field module, for Rust.
 //!
-//! Every function answers any bytes and any watch state; none panics, and a refusal changes nothing that was lent. The numbers of questions
-//! and rules, and the bytes of plans, dumps and call lists, are those of `interface/beltcairn.h`.
+//! Every function answers any bytes and any watch state; none panics, and a refusal changes nothing that was lent. The numbers of kinds,
+//! questions and rules are the constants in [`kind`], [`refused`] and [`breach`]; the bytes of plans, dumps and call lists are those of
+//! `interface/beltcairn.h`.
 #![warn(missing_docs)]
 
+mod numbers;
 pub mod packed;
 mod watch;
 
+pub use numbers::{breach, kind, refused, ABI, NOBODY, OK};
 pub use watch::{Holds, Machine, Plan, Queue, Report, Reports, Slots, State, Watch};
 
 extern "C" {
+    fn beltcairn_abi() -> u32;
     fn beltcairn_check(plan: *const u8, plan_len: usize, dump: *const u8, dump_len: usize, at: *mut u64, due: *mut u64) -> u8;
     fn beltcairn_bench(
         plan: *const u8,
@@ -65,14 +69,20 @@ pub enum Reply {
     Broken(u8),
 }
 
+/// The number of the linked library's interface; it fits this crate if it is [`ABI`].
+pub fn abi() -> u32 {
+    // SAFETY: the library takes nothing and answers a number.
+    unsafe { beltcairn_abi() }
+}
+
 /// The whole check of a plan and a dump.
 pub fn check(plan: &[u8], dump: &[u8]) -> Verdict {
     let (mut at, mut due) = (0, 0);
     // SAFETY: the library reads the two slices within their lengths and writes the two numbers.
     let answer = unsafe { beltcairn_check(plan.as_ptr(), plan.len(), dump.as_ptr(), dump.len(), &mut at, &mut due) };
     match answer {
-        0 => Verdict::Clean { records: at, due },
-        1..=8 => Verdict::Refused(answer),
+        OK => Verdict::Clean { records: at, due },
+        refused::PLAN_COUNTS..=refused::OPERAND => Verdict::Refused(answer),
         rule => Verdict::Breach { record: at, rule },
     }
 }
@@ -86,7 +96,7 @@ pub fn bench(plan: &[u8], list: &[u8], out: &mut [u8]) -> Written {
         beltcairn_bench(plan.as_ptr(), plan.len(), list.as_ptr(), list.len(), to, room, &mut records)
     };
     match answer {
-        0 => Written::Wrote(records),
+        OK => Written::Wrote(records),
         question => Written::Refused(question),
     }
 }
@@ -97,7 +107,7 @@ impl Watch {
         let mut watch = watch::blank();
         // SAFETY: the library reads the slice within its length and writes the watch state, whose layout is the library's.
         match unsafe { beltcairn_begin(plan.as_ptr(), plan.len(), &mut watch) } {
-            0 => Ok(watch),
+            OK => Ok(watch),
             question => Err(question),
         }
     }
@@ -107,8 +117,8 @@ impl Watch {
         let mut due = 0;
         // SAFETY: the library reads and writes the watch state, whose layout is the library's, and writes the number.
         match unsafe { beltcairn_step(self, kind, operand, &mut due) } {
-            0 => Reply::Clean(due),
-            answer @ (7 | 8 | 12 | 13) => Reply::Refused(answer),
+            OK => Reply::Clean(due),
+            answer @ (refused::KIND | refused::OPERAND | refused::STATE | refused::TICK) => Reply::Refused(answer),
             rule => Reply::Broken(rule),
         }
     }

@@ -1,8 +1,11 @@
 //! The functions on the known runs, on what they refuse, and on any bytes.
 mod known;
 
+use beltcairn::kind::{CREATE, DELAY, END, GIVE, LOST, READY, RELINQUISH, SWITCH, TAKE, TICK, WON, YIELD};
 use beltcairn::{bench, check, Reply, Verdict, Watch, Written};
-use known::{bytes, known, run_a, Run, CREATE, PLAN_A, READY, RELINQUISH, SWITCH, TICK};
+use known::{bytes, known, run_a, Run, PLAN_A};
+
+const KINDS: [u8; 12] = [CREATE, DELAY, RELINQUISH, END, TAKE, GIVE, TICK, READY, SWITCH, WON, LOST, YIELD];
 
 /// The verdict of live steps, one for each record until one breaks a rule.
 fn step_by_step(plan: &[u8], records: &[(u8, u16)]) -> Verdict {
@@ -172,7 +175,7 @@ fn changed_runs_are_judged_alike() {
         for _ in 0..numbers.below(4) {
             let i = numbers.below(records.len());
             match numbers.below(3) {
-                0 => records[i].0 = [CREATE, 2, 3, 4, 5, 6, TICK, READY, SWITCH, 18, 19, 20][numbers.below(12)],
+                0 => records[i].0 = KINDS[numbers.below(12)],
                 1 => records[i].1 = numbers.below(4) as u16,
                 _ => records.truncate(i + 1),
             }

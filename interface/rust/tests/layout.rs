@@ -1,13 +1,21 @@
 //! The layout of the watch state: the sizes and offsets that interface/beltcairn.h states, what the library writes, and what it reads.
 mod known;
 
+use beltcairn::kind::{CREATE, DELAY, END, GIVE, READY, RELINQUISH, SWITCH, TAKE, TICK, WON};
 use beltcairn::packed::{numbers, word};
-use beltcairn::{Holds, Machine, Plan, Queue, Reply, Report, Reports, Slots, State, Watch};
-use known::{run_a, CREATE, DELAY, END, GIVE, NOBODY, PLAN_A, READY, RELINQUISH, SWITCH, TAKE, TICK, WON};
+use beltcairn::{abi, breach, refused, Holds, Machine, Plan, Queue, Reply, Report, Reports, Slots, State, Watch, ABI, NOBODY};
+use known::{run_a, PLAN_A};
 use std::mem::{align_of, offset_of, size_of};
+
+/// The linked library has the wrapper's number.
+#[test]
+fn one_interface() {
+    assert_eq!(abi(), ABI);
+}
 
 #[test]
 fn sizes() {
+    assert_eq!(ABI, 1); // where a number below moves, this one rises
     let parts = [size_of::<Plan>(), size_of::<Slots>(), size_of::<Queue>(), size_of::<Holds>()];
     assert_eq!(parts, [64, 16, 16, 24]);
     let wholes = [
@@ -22,6 +30,7 @@ fn sizes() {
 
 #[test]
 fn alignments() {
+    assert_eq!(ABI, 1); // where a number below moves, this one rises
     let eight = [
         align_of::<Plan>(),
         align_of::<Slots>(),
@@ -37,6 +46,7 @@ fn alignments() {
 
 #[test]
 fn offsets() {
+    assert_eq!(ABI, 1); // where a number below moves, this one rises
     assert_eq!(
         [
             offset_of!(Plan, threads),
@@ -199,7 +209,7 @@ fn states_of_one_thread() {
     let mut watch = Watch::begin(&[1, 2, 1, 3, 0]).unwrap();
     steps(
         &mut watch,
-        &[(1, 0), (READY, 0), (SWITCH, 0), (TAKE, 0), (WON, 0), (TAKE, 1), (WON, 0)],
+        &[(CREATE, 0), (READY, 0), (SWITCH, 0), (TAKE, 0), (WON, 0), (TAKE, 1), (WON, 0)],
     );
     assert_eq!(held(&watch.state.machine.holds), [(1, 0), (0, 0)]);
     steps(&mut watch, &[(GIVE, 1), (GIVE, 0), (DELAY, 300)]);
@@ -209,8 +219,8 @@ fn states_of_one_thread() {
     );
     steps(&mut watch, &[(SWITCH, NOBODY), (TICK, 0)]);
     assert_eq!((watch.state.machine.tick, watch.state.machine.reported, watch.rule), (1, 255, 0));
-    assert_eq!(watch.step(READY, 0), Reply::Broken(28));
-    assert_eq!((watch.state.machine.tick, watch.rule), (1, 28));
+    assert_eq!(watch.step(READY, 0), Reply::Broken(breach::NONE_DUE));
+    assert_eq!((watch.state.machine.tick, watch.rule), (1, breach::NONE_DUE));
 }
 
 /// A state made here: thread 0 runs and holds the section that thread 2 waits for, thread 1 sleeps until tick number 9, and it is 7.
@@ -265,7 +275,7 @@ fn clean_lent_states() {
     }
 }
 
-fn refused(mut watch: Watch, question: u8, kind: u8, operand: u16) {
+fn is_refused(mut watch: Watch, question: u8, kind: u8, operand: u16) {
     let before = watch;
     assert_eq!(watch.step(kind, operand), Reply::Refused(question));
     assert_eq!(watch, before);
@@ -306,23 +316,23 @@ fn ill_formed_states() {
     for change in changes {
         let mut watch = made();
         change(&mut watch);
-        refused(watch, 12, TICK, 0);
-        refused(watch, 12, 0, 0);
+        is_refused(watch, refused::STATE, TICK, 0);
+        is_refused(watch, refused::STATE, 0, 0);
     }
 }
 
 #[test]
 fn refused_steps() {
     let mut watch = made();
-    refused(watch, 7, 0, 0);
-    refused(watch, 7, 21, 0);
-    refused(watch, 8, SWITCH, 255);
+    is_refused(watch, refused::KIND, 0, 0);
+    is_refused(watch, refused::KIND, 21, 0);
+    is_refused(watch, refused::OPERAND, SWITCH, 255);
     watch.state.machine.tick = 4_000_000_000;
-    refused(watch, 8, TICK, 1);
-    refused(watch, 13, TICK, 0);
-    watch.rule = 25;
-    refused(watch, 13, TICK, 0);
-    assert_eq!(watch.step(RELINQUISH, 0), Reply::Broken(25));
+    is_refused(watch, refused::OPERAND, TICK, 1);
+    is_refused(watch, refused::TICK, TICK, 0);
+    watch.rule = breach::NOT_NEEDED;
+    is_refused(watch, refused::TICK, TICK, 0);
+    assert_eq!(watch.step(RELINQUISH, 0), Reply::Broken(breach::NOT_NEEDED));
     (watch.rule, watch.state.machine.wakes[1]) = (0, 4_000_065_536);
     assert_eq!(watch.step(RELINQUISH, 0), Reply::Clean(0));
     watch.state.machine.tick = 3_999_999_999;

@@ -5,7 +5,7 @@ use crate::measure::medians;
 use crate::sides;
 
 /// A live step may cost this many records of the whole check.
-const LIVE_AIM: f64 = 10.0;
+const LIVE_AIM: f64 = 20.0;
 /// For the cost to be linear in N, a record of a dump of 20,000 may cost this many of a dump of 5,000.
 const LINEAR_AIM: f64 = 1.25;
 

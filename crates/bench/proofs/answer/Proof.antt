@@ -1,18 +1,12 @@
 -- `answer` meets its contract: the plan is the input's front, and the call list all that is behind it.
-use mathlib.Core.Path.{_≡_, ap, sym, _∙_}
-use mathlib.Core.List.{List}
-use Prim.Native.Nat.{ℕ, _-_}
-use native.Mathlib.Omega.{arith}
+use mathlib.Core.Path.{sym, _∙_}
 use borrow.Author.Needs.{needs}
-use lib.ListN.{length, take, drop, length-drop}
-use lib.Seq.{length-take-le, take-all}
+use lib.ListN.{length}
+use lib.Seq.{length-take-le}
 use Rattle.kernel.specs.Answers.{answer, output}
+use Rattle.streams.proofs.Laws.{parted}
 use Rattle.bench.proofs.answer.Statement.{statement}
 use Rattle.bench.proofs.answer.Tie as tie
-
--- as many as are left is all that is left
-all-left : (k : ℕ) (l : List ℕ) → take (length l - k) (drop k l) ≡ drop k l
-all-left k l = take-all (length l - k) (drop k l) (omega (arith, length-drop k l))
 
 plan-length-requires : tie.Need-plan-length-requires
 plan-length-requires c κs = search needs
@@ -42,8 +36,8 @@ returns c =
     let s = c .before .before .before .before .before .before .before .before .before in
     let l = s .args .input .now in
     let out = s .args .out .now in (
-      b .ensures .0 ∙ ap (λ k. answer (take (n .result) l) k (length out)) (all-left (n .result) l) ∙ ap (λ k. answer (take k l) (drop k l) (length out)) (n .ensures .0),
-      b .ensures .1 ∙ ap (λ k. output (take (n .result) l) k out) (all-left (n .result) l) ∙ ap (λ k. output (take k l) (drop k l) out) (n .ensures .0),
+      b .ensures .0 ∙ parted (λ plan list. answer plan list (length out)) l (n .result) (n .ensures .0),
+      b .ensures .1 ∙ parted (λ plan list. output plan list out) l (n .result) (n .ensures .0),
     )
 
 pub answer-spec : {M : Type 1} → statement M

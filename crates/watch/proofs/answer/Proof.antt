@@ -1,18 +1,11 @@
 -- `answer` meets its contract: the plan is the input's front, and the dump all that is behind it.
-use mathlib.Core.Path.{_≡_, ap, sym, _∙_}
-use mathlib.Core.List.{List}
-use Prim.Native.Nat.{ℕ, _-_}
-use native.Mathlib.Omega.{arith}
+use mathlib.Core.Path.{sym, _∙_}
 use borrow.Author.Needs.{needs}
-use lib.ListN.{length, take, drop, length-drop}
-use lib.Seq.{length-take-le, take-all}
+use lib.Seq.{length-take-le}
 use Rattle.monitor.specs.Answers.{check}
+use Rattle.streams.proofs.Laws.{parted}
 use Rattle.watch.proofs.answer.Statement.{statement}
 use Rattle.watch.proofs.answer.Tie as tie
-
--- as many as are left is all that is left
-all-left : (k : ℕ) (l : List ℕ) → take (length l - k) (drop k l) ≡ drop k l
-all-left k l = take-all (length l - k) (drop k l) (omega (arith, length-drop k l))
 
 plan-length-requires : tie.Need-plan-length-requires
 plan-length-requires c κs = search needs
@@ -35,8 +28,7 @@ check-requires c κs = search needs
 returns : tie.Need-returns
 returns c =
     let n = c .before .before .before .plan-length in
-    let l = c .before .before .before .before .before .args .input .now in
-    c .check .ensures ∙ ap (check (take (n .result) l)) (all-left (n .result) l) ∙ ap (λ k. check (take k l) (drop k l)) (n .ensures .0)
+    c .check .ensures ∙ parted check (c .before .before .before .before .before .args .input .now) (n .result) (n .ensures .0)
 
 pub answer-spec : {M : Type 1} → statement M
 answer-spec =

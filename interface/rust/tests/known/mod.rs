@@ -1,21 +1,8 @@
 //! The known runs of document 01, typed from its text: plan, records, and the verdict that it states.
 #![allow(dead_code)] // each test file uses a part
 
-use beltcairn::Verdict;
-
-pub const CREATE: u8 = 1;
-pub const DELAY: u8 = 2;
-pub const RELINQUISH: u8 = 3;
-pub const END: u8 = 4;
-pub const TAKE: u8 = 5;
-pub const GIVE: u8 = 6;
-pub const TICK: u8 = 7;
-pub const READY: u8 = 16;
-pub const SWITCH: u8 = 17;
-pub const WON: u8 = 18;
-pub const LOST: u8 = 19;
-pub const YIELD: u8 = 20;
-pub const NOBODY: u16 = 65535;
+use beltcairn::kind::{CREATE, DELAY, GIVE, LOST, READY, RELINQUISH, SWITCH, TAKE, TICK, WON, YIELD};
+use beltcairn::{Verdict, NOBODY};
 
 pub const PLAN_A: [u8; 11] = [0x03, 0x01, 0x01, 0x02, 0x03, 0x01, 0x00, 0x00, 0x00, 0x01, 0x00];
 

@@ -13,7 +13,9 @@ fn main() -> Result<ExitCode, Box<dyn Error>> {
     let mut out = vec![0; 2 + 3 * MOST_RECORDS];
     match bench_with(fault, &plan, &list, &mut out) {
         Ok(records) => {
-            io::stdout().lock().write_all(&out[..2 + 3 * records])?;
+            let mut stdout = io::stdout().lock();
+            stdout.write_all(&out[..2 + 3 * records])?;
+            stdout.flush()?;
             Ok(ExitCode::SUCCESS)
         }
         Err(question) => {

@@ -1,15 +1,14 @@
 -- `has_kinds` meets its contract: a loop that asks whether all pass.
 use mathlib.Core.Path.{_≡_, ap, sym, _∙_}
 use mathlib.Core.Bool.{Bool}
-use mathlib.Core.List.{List, map-id}
-use Prim.Native.Nat.{ℕ, _-_, _≤_}
+use mathlib.Core.List.{List}
+use Prim.Native.Nat.{ℕ, _-_}
 use native.Mathlib.Omega.{arith}
 use borrow.Author.Needs.{needs}
 use borrow.Author.Tests.{not-true, not-false}
-use Rattle.model.specs.Searches.{all, upTo}
-use Rattle.model.proofs.Loops.{AllLeft, all-begin, passed, failed, all-passed}
 use Rattle.dump.specs.Layout.{recordCount, kindAt}
 use Rattle.dump.specs.Questions.{kindAllowed}
+use Rattle.dump.proofs.Asking.{Asking, asking, passes, fails, all-pass}
 use Rattle.dump.proofs.questions.has_kinds.Statement.{statement}
 use Rattle.dump.proofs.questions.has_kinds.Tie as tie
 
@@ -18,7 +17,7 @@ abbrev asked : Bool → List ℕ → ℕ → Bool
 asked callsOnly bytes i = kindAllowed callsOnly (kindAt bytes i)
 
 abbrev Inv-loop : tie.InvT-loop
-Inv-loop callsOnly bytes n i₀ i = (i ≤ n) × AllLeft (asked callsOnly bytes) (λ k. k) (recordCount bytes) i
+Inv-loop callsOnly bytes n i₀ i = Asking (asked callsOnly bytes) (recordCount bytes) i
 
 abbrev μ-loop : tie.MeasureT-loop
 μ-loop callsOnly bytes n i₀ i = n - i
@@ -36,7 +35,7 @@ record-count-requires c κs = search needs
 loop-holds : tie.Need-loop-holds Inv-loop μ-loop
 loop-holds c =
     let a = c .before .before .args in
-    (omega arith, all-begin (asked (a .list) (a .bytes .now)) (λ k. k) (recordCount (a .bytes .now)))
+    asking (asked (a .list) (a .bytes .now)) (recordCount (a .bytes .now))
 
 kind-at-requires : tie.Need-kind-at-requires Inv-loop μ-loop
 kind-at-requires c κs = search needs
@@ -48,10 +47,8 @@ returns : tie.Need-returns Inv-loop μ-loop
 returns c =
     let k = c .before .before .before .before in
     let a = k .before .before .before .args in
-    let p = asked (a .list) (a .bytes .now) in
-    let n = recordCount (a .bytes .now) in
-    failed p (λ j. j) n (k .loop .i) (omega arith) (k .loop .inv .1) (sym (answered (c .before)) ∙ not-true (c .before .kind-allowed .result) (c .if1 .taken))
-    ∙ ap (all p) (map-id (upTo n))
+    fails (asked (a .list) (a .bytes .now)) (recordCount (a .bytes .now)) (k .loop .i) (k .loop .inv) (omega arith)
+    (sym (answered (c .before)) ∙ not-true (c .before .kind-allowed .result) (c .if1 .taken))
 
 add-i : tie.Need-add-i Inv-loop μ-loop
 add-i c = search needs
@@ -63,17 +60,14 @@ loop-again : tie.Need-loop-again Inv-loop μ-loop
 loop-again c =
     let k = c .before .before .before .before in
     let a = k .before .before .before .args in
-    let p = asked (a .list) (a .bytes .now) in
-    let n = recordCount (a .bytes .now) in
-    (omega arith, passed p (λ j. j) n (k .loop .i) (omega arith) (k .loop .inv .1) (sym (answered (c .before)) ∙ not-false (c .before .kind-allowed .result) (c .if1 .left)))
+    passes (asked (a .list) (a .bytes .now)) (recordCount (a .bytes .now)) (k .loop .i) (k .loop .inv) (omega arith)
+    (sym (answered (c .before)) ∙ not-false (c .before .kind-allowed .result) (c .if1 .left))
 
 returns-2 : tie.Need-returns-2 Inv-loop μ-loop
 returns-2 c =
     let k = c .before in
     let a = k .before .before .before .args in
-    let p = asked (a .list) (a .bytes .now) in
-    let n = recordCount (a .bytes .now) in
-    all-passed p (λ j. j) n (k .loop .i) (omega arith) (k .loop .inv .1) ∙ ap (all p) (map-id (upTo n))
+    all-pass (asked (a .list) (a .bytes .now)) (recordCount (a .bytes .now)) (k .loop .i) (k .loop .inv) (omega arith)
 
 pub has-kinds-spec : {M : Type 1} → statement M
 has-kinds-spec =

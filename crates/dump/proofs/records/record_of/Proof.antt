@@ -7,7 +7,7 @@ use borrow.Author.Needs.{needs}
 use lib.Dec.{T}
 use Rattle.model.specs.Records as model
 use Rattle.model.proofs.Tests.{split, is-false}
-use Rattle.machine.specs.declared.rules.Record.the-variants.{Create, Take, Give}
+use Rattle.machine.specs.declared.record.Record.the-variants.{Create, Take, Give}
 use Rattle.dump.specs.Questions.{isCall, operandFits}
 use Rattle.dump.specs.Reading.{Reads}
 use Rattle.dump.proofs.Codec.{fits-kind, each-call}

@@ -36,22 +36,22 @@ nibble-at-requires-2 c κs = search needs
 mul-slot-in-range : tie.Need-mul-slot-in-range Inv-loop μ-loop
 mul-slot-in-range c = search needs
 
-array-read-slot-in-range : tie.Need-array-read-slot-in-range Inv-loop μ-loop
-array-read-slot-in-range c = search needs
+array-copy-out-slot-in-range : tie.Need-array-copy-out-slot-in-range Inv-loop μ-loop
+array-copy-out-slot-in-range c = search needs
 
 slot-in-range-requires : tie.Need-slot-in-range-requires Inv-loop μ-loop
 slot-in-range-requires c κs = search needs
 
 -- what is asked of a thread in a turn
 turned : (c : tie.After-slot-in-range Inv-loop μ-loop)
-    → let k = c .before .before .before .before in
+    → let k = c .before .before .before .before .before in
     let a = k .before .args in
     c .slot-in-range .result ≡ conditionInRange (a .sections) (conditionIn (a .slots) (a .t2) (k .loop .t))
-turned c = c .slot-in-range .ensures ∙ (rw (c .before .before .nibble-at .ensures, c .before .nibble-at2 .ensures))
+turned c = c .slot-in-range .ensures ∙ (rw (c .before .before .before .nibble-at .ensures, c .before .before .nibble-at2 .ensures))
 
 returns : tie.Need-returns Inv-loop μ-loop
 returns c =
-    let k = c .before .before .before .before .before in
+    let k = c .before .before .before .before .before .before in
     let a = k .before .args in
     failed (conditionInRange (a .sections)) (conditionIn (a .slots) (a .t2)) (a .threads) (k .loop .t) (omega arith) (k .loop .inv .1)
     (sym (turned (c .before)) ∙ not-true (c .before .slot-in-range .result) (c .if1 .taken))
@@ -64,7 +64,7 @@ loop-less c = search needs
 
 loop-again : tie.Need-loop-again Inv-loop μ-loop
 loop-again c =
-    let k = c .before .before .before .before .before in
+    let k = c .before .before .before .before .before .before in
     let a = k .before .args in (
       omega arith,
       passed (conditionInRange (a .sections)) (conditionIn (a .slots) (a .t2)) (a .threads) (k .loop .t) (omega arith) (k .loop .inv .1)
@@ -89,7 +89,7 @@ in-range-spec =
     cast-nibble-at-2
     nibble-at-requires-2
     mul-slot-in-range
-    array-read-slot-in-range
+    array-copy-out-slot-in-range
     slot-in-range-requires
     returns
     add-t

@@ -6,9 +6,9 @@ use native.Mathlib.Omega.{arith}
 use borrow.Author.Needs.{needs}
 use borrow.Author.Tests.{le-leb, lt-leb}
 use lib.Dec.{leb}
-use lib.ListN.{getD}
 use Rattle.model.specs.Formed.{lastWake}
 use Rattle.model.proofs.Loops.{AllPass, all-begin, pass-kept, pass-lost, all-asked}
+use Rattle.machine.specs.View.{wakeOf}
 use Rattle.formed.proofs.conditions.in_time.Statement.{statement}
 use Rattle.formed.proofs.conditions.in_time.Tie as tie
 
@@ -16,19 +16,19 @@ abbrev early : ℕ → Bool
 early n = leb n lastWake
 
 abbrev Inv-loop : tie.InvT-loop
-Inv-loop wakes pass₀ t₀ pass t = (t ≤ 16) × AllPass early (λ k. getD wakes k 0) 16 t pass
+Inv-loop wakes pass₀ t₀ pass t = (t ≤ 16) × AllPass early (wakeOf wakes) 16 t pass
 
 abbrev μ-loop : tie.MeasureT-loop
 μ-loop wakes pass₀ t₀ pass t = 16 - t
 
 loop-holds : tie.Need-loop-holds Inv-loop μ-loop
-loop-holds c = (omega arith, all-begin early (λ k. getD (c .args .t1) k 0) 16)
+loop-holds c = (omega arith, all-begin early (wakeOf (c .args .t1)) 16)
 
-mul-if1 : tie.Need-mul-if1 Inv-loop μ-loop
-mul-if1 c = search needs
+mul-wake : tie.Need-mul-wake Inv-loop μ-loop
+mul-wake c = search needs
 
-array-read-if1 : tie.Need-array-read-if1 Inv-loop μ-loop
-array-read-if1 c = search needs
+array-copy-out-wake : tie.Need-array-copy-out-wake Inv-loop μ-loop
+array-copy-out-wake c = search needs
 
 add-t : tie.Need-add-t Inv-loop μ-loop
 add-t c = search needs
@@ -38,8 +38,8 @@ loop-less c = search needs
 
 loop-again : tie.Need-loop-again Inv-loop μ-loop
 loop-again c =
-    let k = c .before .before in
-    let wake : ℕ → ℕ = λ j. getD (k .before .args .t1) j 0 in
+    let k = c .before .before .before .before .before in
+    let wake : ℕ → ℕ = wakeOf (k .before .args .t1) in
     let lost = pass-lost early wake 16 (k .loop .t) (k .loop .pass) (omega arith) (k .loop .inv .1) (c .if1 .pass) in
     let kept = pass-kept early wake 16 (k .loop .t) (k .loop .pass) (omega arith) (k .loop .inv .1) (c .if1 .pass) in (
       omega arith,
@@ -52,9 +52,9 @@ loop-again c =
 returns : tie.Need-returns Inv-loop μ-loop
 returns c =
     let k = c .before in
-    all-asked early (λ j. getD (k .before .args .t1) j 0) 16 (k .loop .t) (k .loop .pass) (omega arith) (k .loop .inv .1)
+    all-asked early (wakeOf (k .before .args .t1)) 16 (k .loop .t) (k .loop .pass) (omega arith) (k .loop .inv .1)
 
 pub in-time-spec : {M : Type 1} → statement M
 in-time-spec =
     tie.close
-    (tie.spec Inv-loop μ-loop loop-holds mul-if1 array-read-if1 add-t loop-less loop-again returns)
+    (tie.spec Inv-loop μ-loop loop-holds mul-wake array-copy-out-wake add-t loop-less loop-again returns)

@@ -5,19 +5,20 @@ use Rattle.formed.proofs.conditions.slot_in_range.Tie as tie
 
 returns : tie.Need-returns
 returns c =
-    let a = c .before .args in
-    range-asleep (a .state) (a .want) (a .wake) (a .sections) (c .if1 .taken)
+    let t = c .before .before in
+    let a = t .before .args in
+    range-asleep (a .state) (a .want) (a .wake .0) (a .sections) (t .if1 .taken)
 
 returns-2 : tie.Need-returns-2
 returns-2 c =
     let a = c .before .before .args in
-    range-waiting (a .state) (a .want) (a .wake) (a .sections) (c .if2 .taken)
+    range-waiting (a .state) (a .want) (a .wake .0) (a .sections) (c .if2 .taken)
 
 returns-3 : tie.Need-returns-3
 returns-3 c =
     let k = c .before .before in
     let a = k .args in
-    range-other (a .state) (a .want) (a .wake) (a .sections) (k .pre) (c .before .if1 .left) (c .if2 .left)
+    range-other (a .state) (a .want) (a .wake .0) (a .sections) (k .pre) (c .before .if1 .left) (c .if2 .left)
 
 pub slot-in-range-spec : {M : Type 1} → statement M
 slot-in-range-spec = tie.close (tie.spec returns returns-2 returns-3)

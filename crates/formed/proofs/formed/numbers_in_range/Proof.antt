@@ -11,7 +11,7 @@ use Rattle.formed.proofs.formed.numbers_in_range.Statement.{statement}
 use Rattle.formed.proofs.formed.numbers_in_range.Tie as tie
 
 returns : tie.Need-returns
-returns c = refused-tick (c .before .before .before .before .args .m) (c .if1 .taken)
+returns c = refused-tick (c .before .before .before .before .before .args .m) (c .if1 .taken)
 
 cast-if3 : tie.Need-cast-if3
 cast-if3 c = search needs
@@ -19,18 +19,18 @@ cast-if3 c = search needs
 returns-2 : tie.Need-returns-2
 returns-2 c =
     let k = c .before .before in
-    refused-reported (k .before .before .before .before .before .args .m) (k .if2 .taken) (leb-true _ _ (c .if3 .taken))
+    refused-reported (k .before .before .before .before .before .before .args .m) (k .if2 .taken) (leb-true _ _ (c .if3 .taken))
 
 fit-requires : tie.Need-fit-requires
 fit-requires c κs =
-    let b = c .before .before .before .before .before .before .before .before .before in
+    let b = c .before .before .before .before .before .before .before .before .before .before in
     let waiting = b .args .m .waits .count in
     (b .pre .0 .fits .threads, b .pre .0 .fits .sections, λ e. calm-stood (b .args .m) (b .pre .1) (eqb→eq waiting 0 (from-true (eqb waiting 0) e)))
 
 returns-3 : tie.Need-returns-3
 returns-3 c =
     let k = c .before in
-    refused-condition (k .before .before .before .before .before .before .before .before .before .before .args .m) (was-no (k .fit .ensures) (c .if4 .taken))
+    refused-condition (k .before .before .before .before .before .before .before .before .before .before .before .args .m) (was-no (k .fit .ensures) (c .if4 .taken))
 
 below-requires : tie.Need-below-requires
 below-requires c κs = search needs
@@ -38,7 +38,7 @@ below-requires c κs = search needs
 returns-4 : tie.Need-returns-4
 returns-4 c =
     let k = c .before in
-    refused-queue (k .before .before .before .before .before .before .before .before .before .before .before .before .before .args .m) (was-no (k .below .ensures) (c .if5 .taken))
+    refused-queue (k .before .before .before .before .before .before .before .before .before .before .before .before .before .before .args .m) (was-no (k .below .ensures) (c .if5 .taken))
 
 below-requires-2 : tie.Need-below-requires-2
 below-requires-2 c κs = search needs
@@ -46,7 +46,7 @@ below-requires-2 c κs = search needs
 returns-5 : tie.Need-returns-5
 returns-5 c =
     let k = c .before in
-    refused-waits (k .before .before .before .before .before .before .before .before .before .before .before .before .before .before .before .args .m) (was-no (k .below2 .ensures) (c .if6 .taken))
+    refused-waits (k .before .before .before .before .before .before .before .before .before .before .before .before .before .before .before .before .args .m) (was-no (k .below2 .ensures) (c .if6 .taken))
 
 in-range-requires : tie.Need-in-range-requires
 in-range-requires c κs = search needs
@@ -58,7 +58,7 @@ returns-6 c =
     let s = q .before .before .before in
     let r = s .before .before .before .before .before .before in
     let e = r .before in
-    let m = e .before .before .before .before .args .m in
+    let m = e .before .before .before .before .before .args .m in
     holds-decide m (e .if1 .left)
     (⊎-elim (λ i. names-thread (m .plan) (m .reported) (i .0 .taken) ∙ lt-ltb (m .reported) (m .plan .threads) (leb-false _ _ (i .2 .left)))
     (λ i. names-nobody (m .plan) (m .reported) (i .left))

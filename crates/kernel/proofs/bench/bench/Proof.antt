@@ -12,7 +12,7 @@ use Rattle.plan.proofs.Laws as plan-laws
 use Rattle.dump.specs.Questions as dumps
 use Rattle.dump.proofs.Laws as dump-laws
 use Rattle.kernel.specs.Contracts.{Passed}
-use Rattle.kernel.proofs.Answering.{plan-refuses, list-passes, read-refuses, Tallied, tallied, not-admitted, too-many, no-space, written}
+use Rattle.kernel.proofs.Answering.{refused-by, list-passes, Tallied, tallied, not-admitted, too-many, no-space, written}
 use Rattle.kernel.proofs.bench.bench.Statement.{statement}
 use Rattle.kernel.proofs.bench.bench.Tie as tie
 
@@ -32,7 +32,7 @@ refusal-requires c κs = tt
 returns : tie.Need-returns
 returns c =
     let a = c .before .before .before .before .before .args in
-    plan-refuses (a .plan .now) (a .list .now) (a .out .now) (c .before .refusal .result) (c .before .refusal .ensures) (c .if1 .taken)
+    refused-by (a .plan .now) (a .list .now) (a .out .now) (c .before .refusal .result) (dump-laws.refused-plan (c .before .refusal .ensures) (c .if1 .taken))
 
 -- nothing refuses the plan
 plan-passes : (c : tie.Else1) → plans.refusal (lent c .args .plan .now) ≡ none
@@ -48,7 +48,8 @@ returns-2 : tie.Need-returns-2
 returns-2 c =
     let r = c .before .before in
     let a = lent (r .before) .args in
-    read-refuses (a .plan .now) (a .list .now) (r .read .result) (r .read .ensures) (plan-passes (r .before)) (a .out .now) (c .before .refusal2 .result) (c .before .refusal2 .ensures) (c .if2 .taken)
+    refused-by (a .plan .now) (a .list .now) (a .out .now) (c .before .refusal2 .result)
+    (dump-laws.refused-list (plan-passes (r .before)) (r .read .ensures) (c .before .refusal2 .ensures) (c .if2 .taken))
 
 ceilings-requires : tie.Need-ceilings-requires
 ceilings-requires c κs = read-of c .read .ensures .fits

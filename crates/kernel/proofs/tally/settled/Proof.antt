@@ -3,7 +3,7 @@ use mathlib.Core.Path.{ap}
 use native.Mathlib.Omega.{arith}
 use lib.ListN.{length}
 use Rattle.machine.specs.View.{view}
-use Rattle.machine.specs.Steps.{Owes}
+use Rattle.machine.specs.Contracts.{Owes}
 use Rattle.kernel.proofs.Giving.{Giving, giving-begin, giving-owes, giving-due, giving-next, giving-done}
 use Rattle.kernel.proofs.tally.settled.Statement.{statement}
 use Rattle.kernel.proofs.tally.settled.Tie as tie

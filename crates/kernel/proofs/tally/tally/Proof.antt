@@ -6,11 +6,11 @@ use native.Mathlib.Omega.{arith}
 use lib.ListN.{length}
 use Rattle.model.specs.Records.{Record}
 use Rattle.machine.specs.View.{view}
-use Rattle.machine.specs.Steps.{Fresh}
+use Rattle.machine.specs.Contracts.{Fresh}
 use Rattle.kernel.specs.Answers.{isMade, recordsOf}
 use Rattle.kernel.specs.Contracts.{Passed, madeOf}
 use Rattle.kernel.proofs.Giving.{IsFormed}
-use Rattle.kernel.proofs.CallList.{list-whole, calls-few}
+use Rattle.kernel.proofs.CallList.{calls-few}
 use Rattle.kernel.proofs.CallsMade.{CallsMade, added, added-count, made-begin, made-all, made-steps, made-broke, made-due, made-formed, made-next}
 use Rattle.kernel.proofs.tally.tally.Statement.{statement}
 use Rattle.kernel.proofs.tally.tally.Tie as tie
@@ -35,21 +35,18 @@ passed c =
     let s = c .before .before .before in
     subst (λ p. Passed p (s .args .ceilings .now) (s .args .list .now) (s .args .n)) (sym (c .before .fresh .ensures .plan')) (s .pre)
 
-entry-at-requires : tie.Need-entry-at-requires Inv-loop μ-loop
-entry-at-requires c κs = (list-whole (passed (c .before)), passed (c .before) .count, c .loop-test .taken)
-
 step-requires : tie.Need-step-requires Inv-loop μ-loop
 step-requires c κs =
-    let l = c .before .before in
-    made-steps (passed l) (l .loop .inv .3) (c .before .loop-test .taken) (c .entry-at .ensures)
+    let l = c .before in
+    made-steps (passed l) (l .loop .inv .3) (c .loop-test .taken)
 
 returns : tie.Need-returns Inv-loop μ-loop
 returns c =
     let t = c .before .before .before in
-    let l = t .before .before .before in
+    let l = t .before .before in
     let e =
     ap (λ p. madeOf p (l .before .before .before .args .list .now)) (sym (l .before .fresh .ensures .plan'))
-    ∙ made-broke (passed l) (l .loop .inv .3) (t .before .before .loop-test .taken) (t .before .entry-at .ensures) (t .step .result) (t .step .ensures) (c .if1 .taken)
+    ∙ made-broke (passed l) (l .loop .inv .3) (t .before .loop-test .taken) (t .step .result) (t .step .ensures) (c .if1 .taken)
     in
     record { admitted' = sym (ap isMade e); records' = sym (ap (λ o. length (recordsOf o)) e) }
 
@@ -61,7 +58,7 @@ few c =
     (omega (arith, calls-few (passed (c .before)), k), omega (arith, calls-few (passed (c .before)), k, v .2, v .3 .few))
 
 add-records : tie.Need-add-records Inv-loop μ-loop
-add-records c = record { fits = omega (arith, few (c .before .before .before .before .before) .1) }
+add-records c = record { fits = omega (arith, few (c .before .before .before .before) .1) }
 
 due-count-requires : tie.Need-due-count-requires Inv-loop μ-loop
 due-count-requires c κs = tt
@@ -70,36 +67,34 @@ due-count-requires c κs = tt
 admitted : (c : tie.Else1 Inv-loop μ-loop) → (let o = c .before .before .before .step .result in (length (view (o .state) .due) ≤ 17) × IsFormed (o .state))
 admitted c =
     let t = c .before .before .before in
-    let l = t .before .before .before in
+    let l = t .before .before in
     let m = l .loop .inv .3 in
-    let k = t .before .before .loop-test .taken in
-    let x = t .before .entry-at .ensures in
-    (made-due (passed l) m k x (t .step .result) (t .step .ensures) (c .if1 .left), made-formed (passed l) m k x (t .step .result) (t .step .ensures) (c .if1 .left))
+    let k = t .before .loop-test .taken in
+    (made-due (passed l) m k (t .step .result) (t .step .ensures) (c .if1 .left), made-formed (passed l) m k (t .step .result) (t .step .ensures) (c .if1 .left))
 
 add-records-2 : tie.Need-add-records-2 Inv-loop μ-loop
 add-records-2 c =
     let e = c .before in
-    record { fits = omega (arith, few (e .before .before .before .before .before) .1, admitted e .0, c .due-count .ensures) }
+    record { fits = omega (arith, few (e .before .before .before .before) .1, admitted e .0, c .due-count .ensures) }
 
 settled-requires : tie.Need-settled-requires Inv-loop μ-loop
 settled-requires c κs = admitted (c .before) .1
 
 add-k : tie.Need-add-k Inv-loop μ-loop
-add-k c = record { fits = omega (arith, few (c .before .before .before .before .before .before .before) .0) }
+add-k c = record { fits = omega (arith, few (c .before .before .before .before .before .before) .0) }
 
 loop-less : tie.Need-loop-less Inv-loop μ-loop
-loop-less c = omega (arith, c .before .before .before .before .before .before .before .loop-test .taken)
+loop-less c = omega (arith, c .before .before .before .before .before .before .loop-test .taken)
 
 loop-again : tie.Need-loop-again Inv-loop μ-loop
 loop-again c =
     let e = c .before .before in
     let t = e .before .before .before in
-    let l = t .before .before .before in
+    let l = t .before .before in
     let v = l .loop .inv in
-    let k = t .before .before .loop-test .taken in
-    let x = t .before .entry-at .ensures in
+    let k = t .before .loop-test .taken in
     let o = t .step .result in
-    let n = made-next (passed l) (v .3) k x o (t .step .ensures) (e .if1 .left) (c .settled .result) (c .settled .ensures) in
+    let n = made-next (passed l) (v .3) k o (t .step .ensures) (e .if1 .left) (c .settled .result) (c .settled .ensures) in
     let d = l .before .before .before .args .list .now in
     let count : l .loop .records + 1 + c .before .due-count .result ≡ length (v .1 ++ added d (l .loop .k) (view (o .state))) =
     omega (arith, v .2, c .before .due-count .ensures, added-count (v .1) d (l .loop .k) (view (o .state)))
@@ -122,7 +117,6 @@ tally-spec =
     μ-loop
     fresh-requires
     loop-holds
-    entry-at-requires
     step-requires
     returns
     add-records

@@ -4,7 +4,7 @@ use Prim.Native.Nat.{_<_}
 use native.Mathlib.Omega.{arith}
 use lib.ListN.{length}
 use Rattle.machine.specs.View.{view}
-use Rattle.machine.specs.Steps.{Owes}
+use Rattle.machine.specs.Contracts.{Owes}
 use Rattle.kernel.proofs.Giving.{giving-owes, giving-due}
 use Rattle.kernel.proofs.Putting.{Putting, putting-begin, putting-fits, putting-next, putting-done}
 use Rattle.kernel.proofs.write.put_reports.Statement.{statement}

@@ -7,9 +7,9 @@ use borrow.Author.Needs.{needs}
 use lib.ListN.{length, length-set}
 use Rattle.model.specs.Records.{Record, call, report}
 use Rattle.machine.specs.View.{view}
-use Rattle.machine.specs.Steps.{Fresh}
-use Rattle.kernel.specs.Answers.{recordsOf, inFront}
-use Rattle.kernel.specs.Contracts.{Passed, madeOf, placedFrom, AllFit}
+use Rattle.machine.specs.Contracts.{Fresh}
+use Rattle.kernel.specs.Answers.{recordsOf, atFront}
+use Rattle.kernel.specs.Contracts.{Passed, madeOf, recordsPut, AllFit}
 use Rattle.kernel.proofs.Placing.{from-size, from-next, counted, all-placed}
 use Rattle.kernel.proofs.CallList.{callAt, list-whole, calls-few, call-kind, call-operand}
 use Rattle.kernel.proofs.CallsMade.{CallsMade, added, added-count, made-begin, made-all, made-steps, made-admitted, made-within, made-formed, made-next}
@@ -17,7 +17,7 @@ use Rattle.kernel.proofs.write.write.Statement.{statement}
 use Rattle.kernel.proofs.write.write.Tie as tie
 
 abbrev Inv-loop : tie.InvT-loop
-Inv-loop ceilings list calls before n first who₀ i₀ k₀ out s who i k = (k ≤ calls) × (done : List Record) × (i ≡ length done) × CallsMade (first .machine .plan) list k s who done × (out ≡ placedFrom n 0 done before)
+Inv-loop ceilings list calls before n first who₀ i₀ k₀ out s who i k = (k ≤ calls) × (done : List Record) × (i ≡ length done) × CallsMade (first .machine .plan) list k s who done × (out ≡ recordsPut n 0 done before)
 
 abbrev μ-loop : tie.MeasureT-loop
 μ-loop ceilings list calls before n first who₀ i₀ k₀ out s who i k = calls - k
@@ -61,24 +61,24 @@ size c =
     ap length (v .4) ∙ from-size (s .args .n) (v .1) 0 (counted (s .args .n) (s .args .out .now)) ∙ simp length-set
 
 entry-at-requires : tie.Need-entry-at-requires Inv-loop μ-loop
-entry-at-requires c κs = (list-whole (passed (c .before)), passed (c .before) .count, c .loop-test .taken)
+entry-at-requires c κs = let p = passed (c .before) in (list-whole p, omega (arith, c .loop-test .taken, p .count))
 
 step-requires : tie.Need-step-requires Inv-loop μ-loop
 step-requires c κs =
     let l = c .before .before in
-    made-steps (passed l) (l .loop .inv .3) (c .before .loop-test .taken) (c .entry-at .ensures)
+    made-steps (passed l) (l .loop .inv .3) (c .before .loop-test .taken)
 
 -- every call is admitted, so this one is
 admitted : (c : tie.After-step Inv-loop μ-loop) → c .step .result .rule ≡ 0
 admitted c =
     let l = c .before .before .before in
-    made-admitted (passed l) (l .loop .inv .3) (c .before .before .loop-test .taken) (c .before .entry-at .ensures) (c .step .result) (c .step .ensures) (space l .admitted)
+    made-admitted (passed l) (l .loop .inv .3) (c .before .before .loop-test .taken) (c .step .result) (c .step .ensures) (space l .admitted)
 
 -- and there is room for it and its reports
 fits : (c : tie.After-step Inv-loop μ-loop) → (let l = c .before .before .before in l .loop .i + 1 + length (view (c .step .result .state) .due) ≤ l .before .before .before .before .args .n)
 fits c =
     let l = c .before .before .before in
-    let w = made-within (passed l) (l .loop .inv .3) (c .before .before .loop-test .taken) (c .before .entry-at .ensures) (c .step .result) (c .step .ensures) (admitted c) (space l .admitted) in
+    let w = made-within (passed l) (l .loop .inv .3) (c .before .before .loop-test .taken) (c .step .result) (c .step .ensures) (admitted c) (space l .admitted) in
     omega (arith, w, space l .count, l .loop .inv .2)
 
 put-requires : tie.Need-put-requires Inv-loop μ-loop
@@ -98,7 +98,7 @@ put-reports-requires c κs =
     let t = u .before .before in
     let l = t .before .before .before in
     record {
-      formed' = made-formed (passed l) (l .loop .inv .3) (t .before .before .loop-test .taken) (t .before .entry-at .ensures) (t .step .result) (t .step .ensures) (admitted t);
+      formed' = made-formed (passed l) (l .loop .inv .3) (t .before .before .loop-test .taken) (t .step .result) (t .step .ensures) (admitted t);
       within = fits t;
       room = omega (arith, size l, space l .room, u .put .kept .0);
     }
@@ -129,7 +129,7 @@ loop-again c =
       omega (arith, h),
       v .1 ++ added d k after,
       count,
-      made-next (passed l) (v .3) h (t .before .entry-at .ensures) o (t .step .ensures) (admitted t) (w .put-reports .result .state) (w .put-reports .ensures .settles),
+      made-next (passed l) (v .3) h o (t .step .ensures) (admitted t) (w .put-reports .result .state) (w .put-reports .ensures .settles),
       from-next (s .args .n) (l .loop .i) (v .1) (map report (after .due)) (call (callAt d k)) (t .before .entry-at .result .kind) (t .before .entry-at .result .operand)
           (counted (s .args .n) (s .args .out .now)) (l .loop .out) (u .put .last .0) (w .put-reports .last .1 .0) (v .2) (v .4)
           (e .0 ∙ call-kind (passed l) k h) (e .1 ∙ call-operand (passed l) k h) (u .put .ensures) (w .put-reports .ensures .bytes),
@@ -144,7 +144,7 @@ returns c =
     let s = l .before .before .before .before in
     let v = l .loop .inv in
     let e = ap recordsOf (ap (λ p. madeOf p (s .args .list .now)) (sym (l .before .fresh .ensures .plan')) ∙ made-all (passed l) (v .3) (c .loop-test .left)) in
-    v .4 ∙ all-placed (s .args .n) (v .1) (s .args .out .now) (s .pre .1 .count ∙ ap length e) (s .pre .1 .room) ∙ ap (λ rs. inFront rs (s .args .out .now)) (sym e)
+    v .4 ∙ all-placed (s .args .n) (v .1) (s .args .out .now) (s .pre .1 .count ∙ ap length e) (s .pre .1 .room) ∙ ap (λ rs. atFront rs (s .args .out .now)) (sym e)
 
 pub write-spec : {M : Type 1} → statement M
 write-spec =

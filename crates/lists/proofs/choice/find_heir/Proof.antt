@@ -9,7 +9,8 @@ use Rattle.model.specs.Searches.{any}
 use Rattle.model.specs.State as state
 use Rattle.lists.specs.Words.{entryOf}
 use Rattle.lists.specs.Lists.{queued, held}
-use Rattle.lists.proofs.Laws.{nobody, AnyLeft, missed, found, none-found}
+use Rattle.lists.proofs.Queues.{nobody}
+use Rattle.lists.proofs.Holdings.{AnyLeft, missed, found, none-found}
 use Rattle.lists.proofs.Heirs.{bars, HeirLeft, turns-to, stays, found-heir}
 use Rattle.lists.proofs.choice.find_heir.Statement.{statement}
 use Rattle.lists.proofs.choice.find_heir.Tie as tie

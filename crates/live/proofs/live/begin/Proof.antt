@@ -11,7 +11,7 @@ use Rattle.plan.specs.Bytes.{planOf, refusal, number}
 use Rattle.plan.specs.View.{view}
 use Rattle.plan.proofs.Laws.{refusal-zero}
 use Rattle.machine.specs.declared.state.State.{State}
-use Rattle.machine.specs.Steps.{Fresh}
+use Rattle.machine.specs.Contracts.{Fresh}
 use Rattle.live.specs.Watching.{Watched, fresh, noPlan, planUnless, begin}
 use Rattle.live.specs.Contracts.{seen}
 use Rattle.live.proofs.live.begin.Statement.{statement}

@@ -67,10 +67,10 @@ returns-3 c =
 returns-4 : tie.Need-returns-4
 unfolding refusal
 returns-4 c =
-    let o = c .before .before .before .before in
+    let o = c .before .before .before .before .before in
     let k = o .before .before .before .before in
     let f = k .before .before in
-    rw (well-formed (f .before .before), rule f, kind k, threads-view (plan f), operand o, eq-eqb _ 7 (c .before .before .if5 .taken), c .if6 .taken)
+    rw (well-formed (f .before .before), rule f, kind k, threads-view (plan f), operand o, eq-eqb _ 7 (c .before .before .before .if5 .taken), c .if6 .taken)
 
 returns-5 : tie.Need-returns-5
 unfolding refusal
@@ -79,7 +79,7 @@ returns-5 c =
     let k = o .before .before .before .before in
     let f = k .before .before in
     rw (well-formed (f .before .before), rule f, kind k, threads-view (plan f), operand o) (⊎-elim
-    (λ w. rw (eq-eqb _ 7 (w .0 .taken), w .2 .left))
+    (λ w. rw (eq-eqb _ 7 (w .0 .taken), w .3 .left))
     (λ w. rw (ne-eqb _ 7 (w .left)))
     (c .if5 .came))
 

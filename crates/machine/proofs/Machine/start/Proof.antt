@@ -21,7 +21,7 @@ returns c =
     let p = c .before .before .before .args .plan in
     record {
       plan' = refl;
-      seen = rw (threads-view p, all-dormant (p .threads) (replicate 16 0), c .before .before .none .ensures, c .before .none2 .ensures, c .none3 .ensures);
+      seen = rw (threads-view p, all-dormant (p .threads) (replicate 16 (record { 0 = 0 })), c .before .before .none .ensures, c .before .none2 .ensures, c .none3 .ensures);
     }
 
 pub start-spec : {M : Type 1} → statement M

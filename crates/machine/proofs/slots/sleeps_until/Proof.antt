@@ -4,7 +4,7 @@ use Rattle.machine.proofs.slots.sleeps_until.Statement.{statement}
 use Rattle.machine.proofs.slots.sleeps_until.Tie as tie
 
 returns : tie.Need-returns
-returns c = rw (eq-eqb (c .before .before .args .state) 2 (c .before .if1 .taken))
+returns c = rw (eq-eqb (c .before .before .before .args .state) 2 (c .before .before .if1 .taken))
 
 returns-2 : tie.Need-returns-2
 returns-2 c = rw (ne-eqb (c .before .args .state) 2 (c .if1 .left))

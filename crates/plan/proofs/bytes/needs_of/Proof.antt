@@ -4,7 +4,8 @@ use Prim.Native.Nat.{_+_, _*_, _-_, _≤_}
 use native.Mathlib.Omega.{arith}
 use borrow.Author.Needs.{needs}
 use lib.ListN.{length, length-set}
-use Rattle.plan.specs.Bytes.{word, threadCount, needsAt}
+use Rattle.plan.specs.Bytes.{threadCount, needsAt}
+use Rattle.plan.specs.Words.{word}
 use Rattle.model.proofs.Loops.{Filled, fill-begin, stored}
 use Rattle.plan.proofs.Entries.{filled}
 use Rattle.plan.proofs.bytes.needs_of.Statement.{statement}

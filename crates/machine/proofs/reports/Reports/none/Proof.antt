@@ -1,11 +1,9 @@
 -- `Reports::none` meets its contract: an array of empty entries, none of them in use.
 use mathlib.Core.Path.{refl}
-use Rattle.machine.specs.Lists.{noReports}
 use Rattle.machine.proofs.reports.Reports.none.Statement.{statement}
 use Rattle.machine.proofs.reports.Reports.none.Tie as tie
 
 returns : tie.Need-returns
-unfolding noReports
 returns c = refl
 
 pub none-spec : {M : Type 1} → statement M

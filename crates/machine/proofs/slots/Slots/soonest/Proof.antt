@@ -1,18 +1,18 @@
 -- `Slots::soonest` meets its contract: after t turns the answer is the least of the number kept and of those that the threads from t on wait for.
-use mathlib.Core.Path.{_≡_, sym, _∙_}
+use mathlib.Core.Path.{_≡_, ap, sym, _∙_}
 use mathlib.Core.Logic.{_⊎_, inl, inr, _≢_, ⊎-elim}
 use mathlib.Core.List.{List, [], _∷_, map}
 use Prim.Native.Nat.{ℕ, _+_, _-_, min, _≤_, _<_}
 use native.Mathlib.Omega.{arith}
 use borrow.Author.Needs.{needs}
 use borrow.Author.Tests.{ltb-true, ltb-false}
-use lib.ListN.{getD}
 use Rattle.model.specs.State.{Condition}
 use Rattle.model.specs.Formed.{lastWake}
 use Rattle.model.proofs.Loops.{left, begin, turn, done}
 use Rattle.lists.specs.Words.{nibble}
 use Rattle.machine.specs.declared.slots.Slots.{Slots}
-use Rattle.machine.specs.View.{conditionIn, conditionsOf}
+use Rattle.machine.specs.declared.time.Tick.{Tick}
+use Rattle.machine.specs.View.{wakeOf, conditionIn, conditionsOf}
 use Rattle.machine.specs.Contracts.{wakesAt, soonest}
 use Rattle.machine.proofs.Conditions.{wakes-asleep, wakes-other}
 use Rattle.machine.proofs.slots.Slots.soonest.Statement.{statement}
@@ -22,7 +22,7 @@ at-most-last : (cs : List Condition) → soonest cs ≤ lastWake
 at-most-last [] = omega arith
 at-most-last (c ∷ cs) = omega (arith, at-most-last cs)
 
-module _ (slots : Slots) (wakes : List ℕ) (n : ℕ) where
+module _ (slots : Slots) (wakes : List Tick) (n : ℕ) where
   -- the soonest of these threads
   abbrev soonestOf : List ℕ → ℕ
   soonestOf l = soonest (map (conditionIn slots wakes) l)
@@ -46,7 +46,7 @@ module _ (slots : Slots) (wakes : List ℕ) (n : ℕ) where
     want = nibble (slots .wants) t
 
     abbrev wake : ℕ
-    wake = getD wakes t 0
+    wake = wakeOf wakes t
 
     turned : soonestOf (left t n) ≡ min (wakesAt (conditionIn slots wakes t)) (soonestOf (left (t + 1) n))
     turned = turn soonestOf n t h
@@ -59,7 +59,7 @@ module _ (slots : Slots) (wakes : List ℕ) (n : ℕ) where
     no-sooner (inr d) e = record { most = omega (arith, inv .most); least = omega (arith, turned, wakes-other state want wake d, inv .most, inv .least) }
 
 abbrev Inv-loop : tie.InvT-loop
-Inv-loop self threads wakes first₀ t₀ first t = (t ≤ threads) × SoonestLeft self wakes threads t first
+Inv-loop self threads wakes first₀ t₀ first t = (t ≤ threads) × SoonestLeft self wakes threads t (first .0)
 
 abbrev μ-loop : tie.MeasureT-loop
 μ-loop self threads wakes first₀ t₀ first t = threads - t
@@ -76,8 +76,8 @@ nibble-at-requires c κs = search needs
 mul-wake : tie.Need-mul-wake Inv-loop μ-loop
 mul-wake c = search needs
 
-array-read-wake : tie.Need-array-read-wake Inv-loop μ-loop
-array-read-wake c = search needs
+array-copy-out-wake : tie.Need-array-copy-out-wake Inv-loop μ-loop
+array-copy-out-wake c = search needs
 
 add-t : tie.Need-add-t Inv-loop μ-loop
 add-t c = search needs
@@ -87,16 +87,17 @@ loop-less c = search needs
 
 loop-again : tie.Need-loop-again Inv-loop μ-loop
 loop-again c =
-    let k = c .before .before .before in
+    let k = c .before .before .before .before in
     let a = k .before .args in
     let t = k .loop .t in
     let q = k .loop .inv .1 in
-    let w = getD (a .t2) t 0 in
-    let e = c .before .nibble-at .ensures in
-    let h : t < a .threads = omega arith in (
-      omega arith,
-      ⊎-elim (λ p. sooner (a .self) (a .t2) (a .threads) t h q (sym e ∙ p .0 .taken) (ltb-true w (k .loop .first) (p .1 .taken)) (p .2))
-          (λ p. no-sooner (a .self) (a .t2) (a .threads) t h q (⊎-elim (λ u. inl (sym e ∙ u .0 .taken, ltb-false w (k .loop .first) (u .1 .left))) (λ u. inr (λ z. u .left (e ∙ z))) (p .0 .came)) (p .1))
+    let w = wakeOf (a .t2) t in
+    let e = c .before .before .nibble-at .ensures in
+    let number : Tick → ℕ = λ (x : Tick). x .0 in
+    let h : t < a .threads = c .before .before .before .loop-test .taken in (
+      omega (arith, h),
+      ⊎-elim (λ p. sooner (a .self) (a .t2) (a .threads) t h q (sym e ∙ p .0 .taken) (ltb-true w (k .loop .first .0) (p .3 .taken)) (ap number (p .4)))
+          (λ p. no-sooner (a .self) (a .t2) (a .threads) t h q (⊎-elim (λ u. inl (sym e ∙ u .0 .taken, ltb-false w (k .loop .first .0) (u .3 .left))) (λ u. inr (λ z. u .left (e ∙ z))) (p .0 .came)) (ap number (p .1)))
           (c .if1 .came),
     )
 
@@ -116,7 +117,7 @@ soonest-spec =
     cast-nibble-at
     nibble-at-requires
     mul-wake
-    array-read-wake
+    array-copy-out-wake
     add-t
     loop-less
     loop-again

@@ -10,7 +10,7 @@ use Rattle.machine.specs.declared.Machine.{Machine}
 use Rattle.machine.specs.declared.state.State.{State}
 use Rattle.machine.specs.Lists.{threadOf, reportOf, owed}
 use Rattle.machine.specs.View.{viewed}
-use Rattle.machine.specs.Steps.{Delivers}
+use Rattle.machine.specs.Contracts.{Delivers}
 use Rattle.machine.proofs.Sized.{due-size}
 use Rattle.machine.proofs.Meets.{alike}
 use Rattle.machine.proofs.ReportKinds.{switches, switches-not}

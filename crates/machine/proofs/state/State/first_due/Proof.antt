@@ -1,12 +1,13 @@
 -- `first_due` meets its contract: in a well-formed state the report behind those given is in the array, and one of document 01's.
 use mathlib.Core.Path.{_≡_, ap, sym, _∙_}
 use mathlib.Core.List.{_∷_, tail}
-use Prim.Native.Nat.{_<_}
+use Prim.Native.Nat.{ℕ, _<_}
 use native.Mathlib.Omega.{arith}
 use lib.ListN.{length, getD}
+use Rattle.machine.specs.declared.reports.Report.{Report}
 use Rattle.machine.specs.declared.state.State.{State}
 use Rattle.machine.specs.Lists.{reportOf, noReport}
-use Rattle.machine.specs.Steps.{Owes}
+use Rattle.machine.specs.Contracts.{Owes}
 use Rattle.machine.proofs.Sized.{due-size}
 use Rattle.machine.proofs.Owing.{first-due, due-known, due-fits, owing}
 use Rattle.machine.proofs.state.State.first_due.Statement.{statement}
@@ -27,8 +28,9 @@ returns c =
     let s = c .before .before in
     let q = s .args .self in
     let h = owing q (s .pre .formed') (s .pre .due') in
-    let e = first-due (q .due) (q .given) h in
-    record { kind' = due-known q (s .pre .formed') (q .given) (omega arith) h; first = e ∙ ap (λ l. reportOf (getD (q .due .items) (q .given) noReport) ∷ l) (sym (ap tail e)) }
+    let at : ℕ → Report = λ i. getD (q .due .items) i noReport in
+    let e = first-due at (q .due .count) (q .given) h in
+    record { kind' = due-known (q .machine) at (q .due .count) (q .given) (s .pre .formed') (q .given) (omega arith) h; first = e ∙ ap (λ l. reportOf (getD (q .due .items) (q .given) noReport) ∷ l) (sym (ap tail e)) }
 
 pub first-due-spec : {M : Type 1} → statement M
 first-due-spec = tie.close (tie.spec mul-result element-copy-out-result returns)

@@ -2,7 +2,6 @@
 use mathlib.Core.Path.{ap, _∙_}
 use borrow.Author.Needs.{needs}
 use Rattle.machine.specs.View.{viewed}
-use Rattle.machine.proofs.Meets.{nothing-owed}
 use Rattle.machine.proofs.state.State.fresh.Statement.{statement}
 use Rattle.machine.proofs.state.State.fresh.Tie as tie
 
@@ -15,7 +14,7 @@ none-requires c κs = search needs
 returns : tie.Need-returns
 returns c =
     let m = c .before .start in
-    record { plan' = m .ensures .plan'; seen = ap (viewed (m .result)) (nothing-owed _ (c .none .ensures)) ∙ m .ensures .seen }
+    record { plan' = m .ensures .plan'; seen = ap (viewed (m .result)) (c .none .ensures) ∙ m .ensures .seen }
 
 pub fresh-spec : {M : Type 1} → statement M
 fresh-spec = tie.close (tie.spec start-requires none-requires returns)

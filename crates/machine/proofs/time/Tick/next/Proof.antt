@@ -1,13 +1,12 @@
--- `next` meets its contract: there is room for one more.
-use borrow.Author.Needs.{needs}
+-- `next` meets its contract: number plus a wait of one.
 use Rattle.machine.proofs.time.Tick.next.Statement.{statement}
 use Rattle.machine.proofs.time.Tick.next.Tie as tie
 
-add-t3 : tie.Need-add-t3
-add-t3 c = search needs
+plus-requires : tie.Need-plus-requires
+plus-requires c κs = c .pre
 
 returns : tie.Need-returns
-returns c = search needs
+returns c = c .plus .ensures
 
 pub next-spec : {M : Type 1} → statement M
-next-spec = tie.close (tie.spec add-t3 returns)
+next-spec = tie.close (tie.spec plus-requires returns)

@@ -1,0 +1,160 @@
+-- What is answered of a record, by whether it breaks a rule. And of records that are no call with nothing due: where something is due a call breaks 21,
+-- and a report is compared with the first due; where nothing is due a report breaks 28.
+use mathlib.Core.Path.{_≡_, refl, ap, sym, subst, _∙_}
+use mathlib.Core.Logic.{_⊎_, inl, inr, _≢_}
+use mathlib.Core.Bool.{cond}
+use mathlib.Core.List.{List}
+use mathlib.Core.Option.{Option, none, some}
+use Prim.Native.Nat.{ℕ, suc, _≤_, _<_}
+use native.Mathlib.Omega.{arith}
+use borrow.Author.Tests.{eq-eqb, ne-eqb, lt-ltb, le-ltb}
+use lib.Dec.{eqb}
+use lib.ListN.{drop}
+use Rattle.model.specs.Searches.{isEmpty}
+use Rattle.model.specs.Plan as plan
+use Rattle.model.specs.Records as records
+use Rattle.model.specs.Records.{Call, call, report}
+use Rattle.model.specs.State as state
+use Rattle.model.specs.Priorities.{greatestHold, current, chosen}
+use Rattle.model.specs.Rules.{firstNo, broken}
+use Rattle.model.specs.Runs.{moved, broke, outcome, deliver, effect, step}
+use Rattle.model.proofs.Tests.{equal?}
+use Rattle.lists.specs.Lists.{numbered}
+use Rattle.machine.specs.declared.reports.Report.{Report}
+use Rattle.machine.specs.declared.reporting.Reporting.{Reporting}
+use Rattle.machine.specs.Lists.{threadOf, reportOf, listed}
+use Rattle.machine.specs.View.{planOf, reportAt, shown}
+use Rattle.machine.specs.Rules.{ruleNumber, dueRule}
+use Rattle.machine.specs.Contracts.{IsReport}
+use Rattle.machine.specs.Records.{Named}
+use Rattle.machine.specs.Calls.{Stands, Asks, Answers, barred, unasked, told, Hears}
+use Rattle.machine.proofs.Meets.{alike}
+use Rattle.machine.proofs.ReportKinds.{switches, switches-not}
+use Rattle.machine.proofs.Owing.{drop-next, none-due, first-due, due-known}
+use Rattle.machine.proofs.Questions.{later, first-asked, none-asked, report-asked}
+use Rattle.machine.proofs.Unbroken.{none-broken}
+
+-- the outcome by the first No
+stepped : (p : plan.Plan) (st : state.State) (r : records.Record) {o : Option ℕ} → broken p st r ≡ o → step p st r ≡ outcome o (effect p r st)
+unfolding step
+stepped p st r e = ap (λ (o : Option ℕ). outcome o (effect p r st)) e
+
+-- a number other than 0 is that of a broken rule
+some-rule : (o : Option ℕ) (rule : ℕ) → rule ≡ ruleNumber o → rule ≢ 0 → o ≡ some rule
+some-rule none rule e d = absurd (d e)
+some-rule (some n) rule e d = ap {B = Option ℕ} some (sym e)
+
+-- a report given changes nothing that the chosen thread depends on
+chosen-given : (p : plan.Plan) (st : state.State) (r : records.Report) → chosen p (deliver r st) ≡ chosen p st
+unfolding chosen current greatestHold
+chosen-given p st r = refl
+
+-- the report that breaks neither 29 nor 30 is the first due
+first-is : (d g : Report) → 16 ≤ g .kind → dueRule d (g .kind) (g .who) ≡ 0 → d ≡ g
+first-is d g k z = go (equal? (d .kind) (g .kind)) (equal? (d .who) (g .who)) (rw (le-ltb (g .kind) 16 k) at z)
+  where
+    go : (d .kind ≡ g .kind) ⊎ (d .kind ≢ g .kind) → (d .who ≡ g .who) ⊎ (d .who ≢ g .who) → _≡_ {A = ℕ} (cond (eqb (d .kind) (g .kind)) (cond (eqb (d .who) (g .who)) 0 30) 29) 0 → d ≡ g
+    go (inl a) (inl b) e = λ i. record { kind = a i; who = b i }
+    go (inl a) (inr b) e = absurd (omega (arith, rw (eq-eqb (d .kind) (g .kind) a, ne-eqb (d .who) (g .who) b) at e))
+    go (inr a) b e = absurd (omega (arith, rw (ne-eqb (d .kind) (g .kind) a) at e))
+
+pub barred-stands : {c : Reporting} → Stands c → (rule : ℕ) → Stands (barred c rule)
+barred-stands s n = record { chosen' = s .chosen'; apart' = record { apart = s .apart' .apart }; quiet' = s .quiet' }
+
+module _ (c : Reporting) {r : records.Record} where
+  -- a broken rule
+  pub breaks : (after : Reporting) → after .machine .plan ≡ c .machine .plan → shown after ≡ shown c → after .rule ≡ ruleNumber (broken (planOf (c .machine)) (shown c) r) → after .rule ≢ 0 → Stands after → Answers after c r
+  breaks after q v e d s =
+      let p = planOf (c .machine) in
+      record {
+        outcome = ap (λ b. cond b (moved (shown after)) (broke (after .rule))) (ne-eqb (after .rule) 0 d) ∙ sym (stepped p (shown c) r (some-rule (broken p (shown c) r) (after .rule) e d));
+        plan' = q;
+        kept = λ k. v;
+        stands' = s;
+      }
+
+  -- no broken rule
+  pub moves : (after : Reporting) → after .machine .plan ≡ c .machine .plan → ruleNumber (broken (planOf (c .machine)) (shown c) r) ≡ 0 → after .rule ≡ 0 → shown after ≡ effect (planOf (c .machine)) r (shown c) → Stands after → Answers after c r
+  moves after q z k v s =
+      let p = planOf (c .machine) in
+      record {
+        outcome = ap (λ b. cond b (moved (shown after)) (broke (after .rule))) (eq-eqb (after .rule) 0 k) ∙ ap moved v ∙ sym (stepped p (shown c) r (none-broken p (shown c) r z));
+        plan' = q;
+        kept = λ d. absurd (d k);
+        stands' = s;
+      }
+
+module _ {c : Reporting} {ceilings : List ℕ} {r : records.Record} (a : Asks c ceilings r) where
+  -- a rule that the record breaks, and nothing else changed
+  bars : (rule : ℕ) → rule ≡ ruleNumber (broken (planOf (c .machine)) (shown c) r) → rule ≢ 0 → Answers (barred c rule) c r
+  bars rule e d = breaks c (barred c rule) refl refl e d (barred-stands (a .stands) rule)
+
+  -- 28
+  pub unasked-answers : c .due ≤ c .given → (g : records.Report) → r ≡ report g → Answers (unasked c) c r
+  unasked-answers h g e =
+      bars 28
+      (none-asked (planOf (c .machine)) (shown c) g (none-due (reportAt c) (c .due) (c .given) h) ∙ ap (λ (x : records.Record). ruleNumber (broken (planOf (c .machine)) (shown c) x)) (sym e))
+      (λ z. omega arith)
+
+  module _ (h : c .given < c .due) where
+    abbrev first : Report
+    first = reportAt c (c .given)
+
+    -- 21
+    call-due : (k : Call) → r ≡ call k → Answers (barred c 21) c r
+    call-due k e =
+        let p = planOf (c .machine) in
+        let st = shown c in
+        bars 21
+        (sym (ap ruleNumber
+        (ap (broken p st) e
+        ∙ first-asked p st k
+        ∙ ap (λ (l : List records.Report). cond (isEmpty l) (firstNo (later p st k)) (some 21)) (first-due (reportAt c) (c .due) (c .given) h))))
+        (λ z. omega arith)
+
+    module _ (g : Report) (kind : IsReport g) (e : r ≡ report (reportOf g)) where
+      -- 29 and 30
+      compared : dueRule first (g .kind) (g .who) ≡ ruleNumber (broken (planOf (c .machine)) (shown c) r)
+      compared =
+          report-asked (planOf (c .machine)) (shown c) first g (drop (suc (c .given)) (listed (reportAt c) (c .due)))
+          (due-known (c .machine) (reportAt c) (c .due) (c .given) (a .formed') (c .given) (omega arith) h) kind (first-due (reportAt c) (c .due) (c .given) h)
+          ∙ ap (λ (x : records.Record). ruleNumber (broken (planOf (c .machine)) (shown c) x)) (sym e)
+
+      -- the thread that is then reported
+      abbrev reported : ℕ
+      reported = cond (eqb (g .kind) 17) (g .who) (c .machine .reported)
+
+      switched : threadOf reported ≡ state.switchedTo (threadOf (c .machine .reported)) (reportOf g)
+      switched = go (equal? (g .kind) 17)
+        where
+          go : (g .kind ≡ 17) ⊎ (g .kind ≢ 17) → threadOf reported ≡ state.switchedTo (threadOf (c .machine .reported)) (reportOf g)
+          go (inl q) = ap (λ b. threadOf (cond b (g .who) (c .machine .reported))) (eq-eqb (g .kind) 17 q) ∙ sym (switches g (threadOf (c .machine .reported)) q)
+          go (inr d) = ap (λ b. threadOf (cond b (g .who) (c .machine .reported))) (ne-eqb (g .kind) 17 d) ∙ sym (switches-not g (threadOf (c .machine .reported)) d)
+
+      delivered : shown (told c reported) ≡ deliver (reportOf g) (shown c)
+      delivered = alike refl refl refl refl refl switched (drop-next (c .given) (listed (reportAt c) (c .due)))
+
+      told-answers : dueRule first (g .kind) (g .who) ≡ 0 → Answers (told c reported) c r
+      told-answers z =
+          let p = planOf (c .machine) in
+          moves c (told c reported) refl (sym compared ∙ z) refl (delivered ∙ ap (λ (x : records.Record). effect p x (shown c)) (sym e))
+          (record {
+            chosen' = a .stands .chosen' ∙ ap numbered (sym (chosen-given p (shown c) (reportOf g)) ∙ ap (chosen p) (sym delivered));
+            apart' = record { apart = a .stands .apart' .apart };
+            quiet' = a .stands .quiet';
+          })
+
+    module _ {kind who : ℕ} {x : Reporting} (t : Hears x c kind who) where
+      bars-with : x .rule ≢ 0 → x .rule ≡ ruleNumber (broken (planOf (c .machine)) (shown c) r) → Answers x c r
+      bars-with d e = subst (λ (y : Reporting). Answers y c r) (sym (t .barred' d)) (bars (x .rule) e d)
+
+      pub heard-answers : Named kind who r → Answers x c r
+      heard-answers (inl k) =
+          let e : x .rule ≡ 21 = t .rule' ∙ ap (λ b. cond b 21 (cond (eqb (first .kind) kind) (cond (eqb (first .who) who) 0 30) 29)) (lt-ltb kind 16 (k .0)) in
+          let d : x .rule ≢ 0 = λ z. omega (arith, e, z) in
+          subst (λ (y : Reporting). Answers y c r) (sym (t .barred' d ∙ ap (barred c) e)) (call-due (k .1) (k .2))
+      heard-answers (inr k) = go (equal? (x .rule) 0)
+        where
+          go : (x .rule ≡ 0) ⊎ (x .rule ≢ 0) → Answers x c r
+          go (inl z) = subst (λ (y : Reporting). Answers y c r) (sym (t .given' z)) (told-answers (record { kind = kind; who = who }) (k .0) (k .1) (sym (t .rule') ∙ z))
+          go (inr d) = bars-with d (t .rule' ∙ compared (record { kind = kind; who = who }) (k .0) (k .1))

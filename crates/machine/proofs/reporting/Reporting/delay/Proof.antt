@@ -1,0 +1,129 @@
+-- `delay` meets its contract: the caller sleeps until the wait is over, and is in no queue.
+use mathlib.Core.Path.{_≡_, refl, ap, sym, _∙_}
+use mathlib.Core.Logic.{⊎-elim}
+use mathlib.Core.List.{[]}
+use Prim.Native.Nat.{ℕ, _+_, _<_}
+use native.Mathlib.Omega.{arith}
+use lib.ListN.{set}
+use Rattle.model.specs.Records as records
+use Rattle.model.specs.State.{asleep}
+use Rattle.model.specs.Calls.{delay}
+use Rattle.machine.specs.declared.Machine.{Machine}
+use Rattle.machine.specs.declared.slots.Slots.{Slots}
+use Rattle.machine.specs.declared.reports.Reports.{Reports}
+use Rattle.machine.specs.View.{conditionsOf, reportsIn}
+use Rattle.machine.specs.Rules.{freeRule}
+use Rattle.machine.specs.Lists.{owed}
+use Rattle.machine.proofs.Admitted.{Asked, Runs, Makes, admits, refuses, by}
+use Rattle.machine.proofs.Asking.{delay-rule, delays}
+use Rattle.machine.proofs.Facts.{facts}
+use Rattle.machine.proofs.Sized.{slept-size}
+use Rattle.machine.proofs.Room.{caller-fits}
+use Rattle.machine.proofs.Chosen.{listed}
+use Rattle.machine.proofs.Views.{sleeps-seen}
+use Rattle.machine.proofs.Meets.{alike}
+use Rattle.machine.proofs.Outcomes.{caller-asked, call-settles, call-answers}
+use Rattle.machine.proofs.reporting.Reporting.delay.Statement.{statement}
+use Rattle.machine.proofs.reporting.Reporting.delay.Tie as tie
+
+-- where the rule's answer is 0, the caller is the chosen thread
+admitted : {m : Machine} {x rule : ℕ} → Asked m x → (n : ℕ) → rule ≡ freeRule (m .holds) x → rule ≡ 0 → Runs m x
+admitted a n e z = delays a n (sym (delay-rule a n) ∙ sym e ∙ z)
+
+free-rule-requires : tie.Need-free-rule-requires
+free-rule-requires c κs = listed (facts (caller-asked (c .before .before .pre) .formed)) .counts .holds'
+
+-- the tick number has room for the wait, and for one more
+
+plus-requires : tie.Need-plus-requires
+plus-requires c κs = omega (arith, facts (caller-asked (c .before .before .before .before .before .pre) .formed) .tick)
+
+next-requires : tie.Need-next-requires
+next-requires c κs = omega (arith, c .plus .ensures, facts (caller-asked (c .before .before .before .before .before .before .pre) .formed) .tick)
+
+-- where no rule is broken the caller is a thread
+fits : (c : tie.Then1) → c .before .before .before .before .args .self .chosen < 16
+fits c =
+    let k = c .before in
+    let s = k .before .before .before in
+    caller-fits (admitted (caller-asked (s .pre)) (s .args .wait .0) (k .free-rule .ensures) (c .if1 .taken))
+
+placed-requires : tie.Need-placed-requires
+placed-requires c κs = (fits (c .before .before .before .before), omega arith)
+
+cast-wakes : tie.Need-cast-wakes
+cast-wakes c = omega (arith, fits (c .before .before .before .before .before .before))
+
+mul-wakes : tie.Need-mul-wakes
+mul-wakes c = record { fits = omega (arith, fits (c .before .before .before .before .before .before)) }
+
+array-set-from-wakes : tie.Need-array-set-from-wakes
+array-set-from-wakes c = fits (c .before .before .before .before .before .before)
+
+without-requires : tie.Need-without-requires
+without-requires c κs = listed (facts (caller-asked (c .before .before .before .before .before .before .before .before .before .before .before .pre) .formed)) .counts .queue'
+
+abbrev start : tie.Joined1 → tie.Start
+start c = c .before .before .before .before
+
+-- what is left before the Switch: the caller may sleep, or a rule is broken. Last in each way stands the machine.
+made : (c : tie.Joined1) {rs : Reports} → owed rs ≡ [] → Makes (c .if1 .m) rs (c .before .free-rule .result) (start c .args .self .machine) (records.Delay (start c .args .wait .0))
+unfolding delay
+made c none' =
+    let k = c .before in
+    let s = start c in
+    let m = s .args .self .machine in
+    let x = s .args .self .chosen in
+    let n = s .args .wait .0 in
+    let a = caller-asked (s .pre) in
+    let e = k .free-rule .ensures ∙ delay-rule a n in
+    ⊎-elim
+    (λ w.
+    let r = admitted a n (k .free-rule .ensures) (w .0 .taken) in
+    admits e (by r (λ y. delay y n)) (w .0 .taken) (w .9) refl
+    (record {
+      plan' = refl;
+      seen =
+          alike refl
+          (ap (λ (k : Slots). conditionsOf (m .plan .threads) k (set (m .wakes) x (w .3 .result))) (w .5 .ensures)
+          ∙ sleeps-seen (m .plan .threads) (m .slots) (m .wakes) x (w .3 .result) (omega (arith, caller-fits r, slept-size (s .args .self) (s .good .0)))
+          ∙ ap (λ u. set (conditionsOf (m .plan .threads) (m .slots) (m .wakes)) x (asleep u)) (w .3 .ensures ∙ ap (λ u. u + 1) (w .2 .ensures)))
+          (w .8 .ensures)
+          refl refl refl
+          none';
+    }))
+    (λ w. refuses e (w .0 .left) (w .1) refl none')
+    (c .if1 .came)
+
+chosen-requires : tie.Need-chosen-requires
+chosen-requires c κs = call-settles (start c .pre) (made c {rs = record { items = []; count = 0 }} refl) .chooses
+
+cleared-requires : tie.Need-cleared-requires
+cleared-requires c κs = tt
+
+owing-requires : tie.Need-owing-requires
+owing-requires c κs = let j = c .before .before in call-settles (start j .pre) (made j {rs = reportsIn (c .cleared .result)} (c .cleared .ensures)) .room
+
+returns : tie.Need-returns
+returns c =
+    let n = c .before in
+    let h = n .before in
+    let j = h .before in
+    rw (c .owing .ensures) (record { answers = call-answers (start j .pre) (made j (n .cleared .ensures)) (h .chosen .ensures) (λ t k l q. omega arith); quiet' = refl })
+
+pub delay-spec : {M : Type 1} → statement M
+delay-spec =
+    tie.close
+    (tie.spec
+    free-rule-requires
+    plus-requires
+    next-requires
+    placed-requires
+    cast-wakes
+    mul-wakes
+    array-set-from-wakes
+    without-requires
+    chosen-requires
+    cleared-requires
+    owing-requires
+    returns)

@@ -1,0 +1,131 @@
+-- `relinquish` meets its contract: a rivalled caller goes to the end of the queue and yields, and any other stays.
+use mathlib.Core.Path.{_≡_, refl, ap, sym, _∙_}
+use mathlib.Core.Logic.{⊎-elim}
+use mathlib.Core.Bool.{Bool, true, false}
+use mathlib.Core.List.{List, [], _∷_, _++_}
+use Prim.Native.Nat.{ℕ, _<_}
+use native.Mathlib.Omega.{arith}
+use lib.ListN.{length}
+use Rattle.model.specs.Plan.{Plan}
+use Rattle.model.specs.Records as records
+use Rattle.model.specs.Records.{Yield}
+use Rattle.model.specs.State.{State, leaveQueue, joinQueue, owe}
+use Rattle.model.specs.Calls.{rivalled, relinquish}
+use Rattle.lists.specs.Words.{entryOf}
+use Rattle.machine.specs.declared.Machine.{Machine}
+use Rattle.lists.specs.Lists.{queued, held}
+use Rattle.lists.specs.Choice.{rivalledIn}
+use Rattle.machine.specs.View.{planOf, idle, reportsIn}
+use Rattle.machine.specs.Rules.{runRule}
+use Rattle.machine.specs.Contracts.{Ceilings}
+use Rattle.machine.proofs.Admitted.{Asked, Runs, Makes, admits, refuses, by}
+use Rattle.machine.proofs.Asking.{relinquish-rule, relinquishes}
+use Rattle.machine.proofs.Facts.{facts}
+use Rattle.lists.proofs.Laws.{length-queued}
+use Rattle.machine.proofs.Room.{caller-known, caller-fits, without-room}
+use Rattle.machine.proofs.Chosen.{listed, rivalled-is, rivalled-same}
+use Rattle.machine.proofs.Meets.{alike}
+use Rattle.machine.proofs.Outcomes.{caller-asked, call-settles, quiet-answers}
+use Rattle.machine.proofs.reporting.Reporting.relinquish.Statement.{statement}
+use Rattle.machine.proofs.reporting.Reporting.relinquish.Tie as tie
+
+-- what a Relinquish does, by whether its caller is rivalled
+
+yields : (p : Plan) (x : ℕ) (st : State) → rivalled p x st ≡ true → relinquish p x st ≡ owe (Yield x ∷ []) (joinQueue x (leaveQueue x st))
+unfolding relinquish
+yields p x st e = rw e
+
+stays : (p : Plan) (x : ℕ) (st : State) → rivalled p x st ≡ false → relinquish p x st ≡ st
+unfolding relinquish
+stays p x st e = rw e
+
+module _ {m : Machine} {x : ℕ} (a : Asked m x) where
+  -- where the rule's answer is 0, the caller is the chosen thread
+  admitted : {rule : ℕ} → rule ≡ runRule x → rule ≡ 0 → Runs m x
+  admitted e z = relinquishes a (sym (relinquish-rule a) ∙ sym e ∙ z)
+
+  -- the code's test is the model's
+  tested : (ceilings : List ℕ) → Ceilings m ceilings → (r v : Bool)
+      → x < m .plan .threads
+      → r ≡ rivalledIn (entryOf (m .plan .bases)) ceilings (queued (m .queue)) (held (m .holds)) (queued (m .waits)) x
+      → r ≡ v
+      → rivalled (planOf m) x (idle m) ≡ v
+  tested ceilings c r v h e k =
+      let f = facts (a .formed) in
+      sym (e ∙ rivalled-same (m .plan .bases) ceilings (listed f) x h ∙ rivalled-is m (f .valid) c [] x) ∙ k
+
+cleared-requires : tie.Need-cleared-requires
+cleared-requires c κs = tt
+
+run-rule-requires : tie.Need-run-rule-requires
+run-rule-requires c κs = tt
+
+rivalled-of-requires : tie.Need-rivalled-of-requires
+rivalled-of-requires c κs =
+    let d = c .before .before .before .before .before in
+    let k = d .before in
+    let a = caller-asked (k .before .before .before .pre) in
+    (listed (facts (a .formed)) .counts, caller-fits (admitted a (k .run-rule .ensures) (d .if1 .taken)))
+
+without-requires : tie.Need-without-requires
+without-requires c κs = listed (facts (caller-asked (c .before .before .before .before .before .before .before .before .before .before .before .pre) .formed)) .counts .queue'
+
+push-requires : tie.Need-push-requires
+push-requires c κs =
+    let d = c .before .before .before .before .before .before .before .before in
+    let k = d .before in
+    let r = admitted (caller-asked (k .before .before .before .pre)) (k .run-rule .ensures) (d .if1 .taken) in
+    (omega (arith, length-queued (c .without .result), ap length (c .without .ensures), without-room r), caller-fits r)
+
+one-requires : tie.Need-one-requires
+one-requires c κs = tt
+
+abbrev start : tie.Joined1 → tie.Start
+start c = c .before .before .before .before
+
+-- what is left before the Switch: the caller is rivalled, it is not, or the rule is broken. Last in each way stand the machine and the reports.
+made : (c : tie.Joined1) → Makes (c .if1 .m) (reportsIn (c .if1 .c)) (c .before .run-rule .result) (start c .args .self .machine) records.Relinquish
+made c =
+    let k = c .before in
+    let s = start c in
+    let m = s .args .self .machine in
+    let x = s .args .self .chosen in
+    let a = caller-asked (s .pre) in
+    let e = k .run-rule .ensures ∙ relinquish-rule a in
+    let none' = k .before .before .cleared .ensures in
+    ⊎-elim
+    (λ w.
+    let g = admitted a (k .run-rule .ensures) (w .0 .taken) in
+    let t = tested a (s .args .ceilings .now) (s .pre .asks .ceilings') (w .6 .result) true (caller-known g) (w .6 .ensures) (w .7 .taken) in
+    admits e (by g (relinquish (planOf m)) ∙ yields (planOf m) x (idle m) t) (w .0 .taken) (w .12) (ap reportsIn (w .11))
+    (record {
+      plan' = refl;
+      seen =
+          alike refl refl
+          (w .9 .ensures ∙ ap (λ l. l ++ (x ∷ [])) (w .8 .ensures))
+          refl refl refl
+          (w .10 .ensures);
+    }))
+    (⊎-elim
+    (λ w.
+    let g = admitted a (k .run-rule .ensures) (w .0 .taken) in
+    let t = tested a (s .args .ceilings .now) (s .pre .asks .ceilings') (w .6 .result) false (caller-known g) (w .6 .ensures) (w .7 .left) in
+    admits e (by g (relinquish (planOf m)) ∙ stays (planOf m) x (idle m) t) (w .0 .taken) (w .9) (ap reportsIn (w .8))
+    (record { plan' = refl; seen = alike refl refl refl refl refl refl none' }))
+    (λ w. refuses e (w .0 .left) (w .2) (ap reportsIn (w .1)) none'))
+    (c .if1 .came)
+
+chosen-requires : tie.Need-chosen-requires
+chosen-requires c κs = call-settles (start c .pre) (made c) .chooses
+
+owing-requires : tie.Need-owing-requires
+owing-requires c κs = let j = c .before in call-settles (start j .pre) (made j) .room
+
+returns : tie.Need-returns
+returns c =
+    let h = c .before in
+    let j = h .before in
+    rw (c .owing .ensures) (record { answers = quiet-answers (start j .pre) (made j) refl (h .chosen .ensures); quiet' = refl })
+
+pub relinquish-spec : {M : Type 1} → statement M
+relinquish-spec = tie.close (tie.spec cleared-requires run-rule-requires rivalled-of-requires without-requires push-requires one-requires chosen-requires owing-requires returns)

@@ -1,0 +1,106 @@
+-- What a call and a report ask, and that they answer what one step of the model does.
+use mathlib.Core.Path.{_≡_}
+use mathlib.Core.Logic.{_⊎_}
+use mathlib.Core.Bool.{cond}
+use mathlib.Core.List.{List}
+use Prim.Native.Nat.{ℕ, _+_, _≤_, _<_}
+use lib.Dec.{T, eqb}
+use Rattle.model.specs.Records as records
+use Rattle.model.specs.State.{asleep}
+use Rattle.model.specs.Priorities.{chosen}
+use Rattle.model.specs.Runs.{moved, broke, step}
+use Rattle.model.specs.Formed.{formed, lastTick}
+use Rattle.lists.specs.Lists.{numbered}
+use Rattle.machine.specs.declared.Machine.{Machine}
+use Rattle.machine.specs.declared.reporting.Reporting.{Reporting}
+use Rattle.machine.specs.declared.state.State.{State}
+use Rattle.machine.specs.View.{conditionIn, conditionsOf, planOf, view, reportAt, shown}
+use Rattle.machine.specs.Rules.{dueRule}
+use Rattle.machine.specs.Contracts.{Ceilings, soonest}
+
+-- the Switch has a place behind the reports of the array, and nothing else stands apart from it
+pub record Apart (c : Reporting) : Type 0 where
+  pub apart : (c .due ≡ c .count) ⊎ ((c .due ≡ c .count + 1) × (c .count < 17))
+
+-- what is carried beside the machine is what it should be: the chosen thread, the place of the Switch, the tick number before which nobody wakes
+pub record Stands (c : Reporting) : Type 0 where
+  pub chosen' : c .chosen ≡ numbered (chosen (planOf (c .machine)) (shown c))
+  pub apart' : Apart c
+  pub quiet' : (t n : ℕ) → t < c .machine .plan .threads → conditionIn (c .machine .slots) (c .machine .wakes) t ≡ asleep n → c .quiet .0 ≤ n
+
+-- What a record asks: a well-formed state (the answer is not 12) and what is carried beside it, the ceilings of its plan, an operand that its
+-- kind allows, and for a Tick room for the tick number to grow (the answer is not 13).
+pub record Asks (c : Reporting) (ceilings : List ℕ) (r : records.Record) : Type 0 where
+  pub formed' : T (formed (planOf (c .machine)) (shown c))
+  pub stands : Stands c
+  pub ceilings' : Ceilings (c .machine) ceilings
+  pub allowed' : T (records.allowed (planOf (c .machine)) r)
+  pub tick' : r ≡ records.call records.Tick → c .machine .tick .0 < lastTick
+
+-- a call, with nothing due
+pub record Calls (c : Reporting) (ceilings : List ℕ) (k : records.Call) : Type 0 where
+  pub asks : Asks c ceilings (records.call k)
+  pub undue : c .due ≤ c .given
+
+-- What is answered of a record: what the model's step answers, the state after it with all its reports due, or the broken rule, which leaves
+-- the state as it came.
+pub record Answers (after c : Reporting) (r : records.Record) : Type 0 where
+  pub outcome : cond (eqb (after .rule) 0) (moved (shown after)) (broke (after .rule)) ≡ step (planOf (c .machine)) (shown c) r
+  pub plan' : after .machine .plan ≡ c .machine .plan
+  pub kept : (after .rule ≡ 0 → ⊥) → shown after ≡ shown c
+  pub stands' : Stands after
+
+-- the tick number before which nobody wakes, after a call: asked anew by a Tick, no longer known after a Delay, and kept by every other call
+abbrev pub quietAfter : records.Call → (kept : ℕ) → Machine → ℕ
+quietAfter (records.Create t) kept m = kept
+quietAfter (records.Delay n) kept m = 0
+quietAfter records.Relinquish kept m = kept
+quietAfter records.End kept m = kept
+quietAfter (records.Take s) kept m = kept
+quietAfter (records.Give s) kept m = kept
+quietAfter records.Tick kept m = soonest (conditionsOf (m .plan .threads) (m .slots) (m .wakes))
+
+-- what a call answers
+pub record Called (after c : Reporting) (k : records.Call) : Type 0 where
+  pub answers : Answers after c (records.call k)
+  pub quiet' : after .quiet .0 ≡ quietAfter k (c .quiet .0) (after .machine)
+
+-- a well-formed state with something due
+pub record Hearing (c : Reporting) : Type 0 where
+  pub formed' : T (formed (planOf (c .machine)) (shown c))
+  pub due' : c .given < c .due
+
+-- another rule, and nothing else changed
+abbrev pub barred : Reporting → (rule : ℕ) → Reporting
+barred c rule = record { machine = c .machine; reports = c .reports; count = c .count; due = c .due; given = c .given; chosen = c .chosen; quiet = c .quiet; rule = rule }
+
+-- 28: a report where none is due
+abbrev pub unasked : Reporting → Reporting
+unasked c = barred c 28
+
+-- one more report is given, and this thread is the one reported
+abbrev pub told : Reporting → (reported : ℕ) → Reporting
+told c x =
+    let m = c .machine in
+    record {
+      machine = record { plan = m .plan; tick = m .tick; slots = m .slots; wakes = m .wakes; queue = m .queue; holds = m .holds; waits = m .waits; reported = x };
+      reports = c .reports;
+      count = c .count;
+      due = c .due;
+      given = c .given + 1;
+      chosen = c .chosen;
+      quiet = c .quiet;
+      rule = 0;
+    }
+
+-- a record where a report is due, by its kind and the thread that it names: the first due is given, a Switch given names the thread reported, or
+-- a rule is broken
+pub record Hears (r c : Reporting) (kind who : ℕ) : Type 0 where
+  pub rule' : r .rule ≡ dueRule (reportAt c (c .given)) kind who
+  pub given' : r .rule ≡ 0 → r ≡ told c (cond (eqb kind 17) who (c .machine .reported))
+  pub barred' : (r .rule ≡ 0 → ⊥) → r ≡ barred c (r .rule)
+
+-- as it is lent
+pub record Closes (r : State) (c : Reporting) : Type 0 where
+  pub machine' : r .machine ≡ c .machine
+  pub seen : view r ≡ shown c

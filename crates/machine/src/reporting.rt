@@ -1,0 +1,139 @@
+// A machine with the reports of its latest call. The Switch stands apart from the array: there is at most one, and it is last, so that of every
+// call but a Tick each report has a place that is known when the code is compiled.
+ghost use mathlib.Core.Path.{_≡_};
+ghost use mathlib.Core.List.{[], _∷_, _++_};
+ghost use Prim.Native.Nat.{_<_};
+ghost use lib.Dec.{ltb};
+ghost use Rattle.model.specs.Priorities.{chosen};
+ghost use Rattle.lists.specs.Lists.{numbered};
+ghost use Rattle.machine.specs.Lists.{reportOf, owed};
+ghost use Rattle.machine.specs.View.{planOf, idle, reportsIn};
+ghost use Rattle.machine.specs.Contracts.{Starts, Chooses, owing};
+use crate::Machine;
+use crate::reports::Report;
+use crate::reports::Reports;
+use crate::slots::Slots;
+use crate::time::Tick;
+use lists::choice;
+use lists::holds::Holds;
+use lists::queue::Queue;
+use plan::Plan;
+
+// `count` reports stand in the array; `due` is how many the call made due, one more where a Switch to the chosen thread is among them. The first
+// `given` are given.
+// Nobody wakes before the tick number `quiet`. `rule` is the one that the latest record broke, 0 if there is none.
+pub struct Reporting {
+    pub machine: Machine,
+    pub reports: [Report; 17],
+    pub count: usize,
+    pub due: usize,
+    pub given: usize,
+    pub chosen: u8,
+    pub quiet: Tick,
+    pub rule: u8,
+}
+
+impl Machine {
+    // At the start all are dormant: see model, State.start.
+    pub fn start(plan: Plan) -> Machine
+        ensures { λ r. ⌜ Starts r plan ⌝ }
+    {
+        Machine {
+            plan,
+            tick: Tick(0),
+            slots: Slots {
+                states: 0,
+                wants: 0,
+            },
+            wakes: [Tick(0); 16],
+            queue: Queue::none(),
+            holds: Holds::none(),
+            waits: Queue::none(),
+            reported: 255,
+        }
+    }
+
+    // The chosen thread, 255 for nobody: see model, Priorities.chosen.
+    pub fn chosen(self, ceilings: &[u8; 16]) -> u8
+        requires { ⌜ Chooses self (now ceilings) ⌝ }
+        ensures { λ r. ⌜ r ≡ numbered (chosen (planOf self) (idle self)) ⌝ }
+    {
+        let p = self.plan;
+        let b = p.bases;
+        let q = self.queue;
+        let h = self.holds;
+        let w = self.waits;
+        choice::chosen_of(b, ceilings, q, h, w)
+    }
+}
+
+impl Reporting {
+    // Whether a report is due.
+    pub fn owes(self) -> bool
+        ensures { λ r. ⌜ r ≡ ltb (self .given) (self .due) ⌝ }
+    {
+        self.given < self.due
+    }
+
+    // With no report.
+    pub(crate) fn cleared(self) -> Reporting
+        ensures { λ r. ⌜ owed (reportsIn r) ≡ [] ⌝ }
+    {
+        let mut c = self;
+        c.count = 0;
+        c
+    }
+
+    // With one report.
+    pub(crate) fn one(self, kind: u8, who: u8) -> Reporting
+        ensures { λ r. ⌜ owed (reportsIn r) ≡ reportOf (record { kind = kind; who = who }) ∷ [] ⌝ }
+    {
+        let mut c = self;
+        c.reports[0] = Report { kind, who };
+        c.count = 1;
+        c
+    }
+
+    // With a second report behind the first.
+    pub(crate) fn two(self, kind: u8, who: u8) -> Reporting
+        requires { ⌜ self .count ≡ 1 ⌝ }
+        ensures { λ r. ⌜ owed (reportsIn r) ≡ owed (reportsIn self) ++ (reportOf (record { kind = kind; who = who }) ∷ []) ⌝ }
+    {
+        let mut c = self;
+        c.reports[1] = Report { kind, who };
+        c.count = 2;
+        c
+    }
+
+    // With these reports.
+    pub(crate) fn telling(self, reports: Reports) -> Reporting
+        ensures { λ r. ⌜ reportsIn r ≡ reports ⌝ }
+    {
+        let mut c = self;
+        let items = reports.items;
+        c.reports = items;
+        c.count = reports.count;
+        c
+    }
+
+    // What a call hands back: its reports, and behind them a Switch where the chosen thread is not the one reported. A broken rule makes
+    // none due.
+    pub(crate) fn owing(self, machine: Machine, rule: u8, chosen: u8, quiet: Tick) -> Reporting
+        requires { ⌜ self .count < 17 ⌝ }
+        ensures { λ r. ⌜ r ≡ owing machine (reportsIn self) rule chosen quiet ⌝ }
+    {
+        let mut c = self;
+        let count = self.count;
+        let mut due = count;
+        if rule == 0 && chosen != machine.reported {
+            due = count + 1;
+        }
+        c.machine = machine;
+        c.due = due;
+        c.given = 0;
+        c.chosen = chosen;
+        c.quiet = quiet;
+        c.rule = rule;
+        c
+    }
+}

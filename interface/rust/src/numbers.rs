@@ -1,0 +1,94 @@
+//! The numbers of kinds, questions and rules, as document 01 states them. interface/beltcairn.h has the same under the names
+//! `BELTCAIRN_KIND_CREATE`, `BELTCAIRN_REFUSED_KIND`, `BELTCAIRN_BREACH_NONE_DUE` and so on.
+
+/// The number of this interface. It rises whenever the layout of [`Watch`](crate::Watch) or the signature of a function of the library moves;
+/// [`abi`](crate::abi) asks the library for its own.
+pub const ABI: u32 = 1;
+
+/// The operand of a Switch to nobody. In a watch state, where a thread is named by a byte, 255 stands for nobody.
+pub const NOBODY: u16 = 65535;
+
+/// What the library answers where nothing was refused and no rule is broken.
+pub const OK: u8 = 0;
+
+/// Kinds of records: calls from 1 to 7, reports from 16 to 20.
+pub mod kind {
+    /// Thread below T: it becomes ready at the line's end.
+    pub const CREATE: u8 = 1;
+    /// n, 1 to 65535: the caller sleeps until tick number + n + 1.
+    pub const DELAY: u8 = 2;
+    /// 0: if another ready thread has the caller's current priority, the caller goes to the line's end.
+    pub const RELINQUISH: u8 = 3;
+    /// 0: the caller becomes dormant.
+    pub const END: u8 = 4;
+    /// Section below S: the caller wins if its base priority is above every ceiling held by others.
+    pub const TAKE: u8 = 5;
+    /// Section below S: the hold ends, and may pass to a waiting thread.
+    pub const GIVE: u8 = 6;
+    /// 0: the tick number grows by one.
+    pub const TICK: u8 = 7;
+    /// Thread below T: it becomes ready, at the line's end.
+    pub const READY: u8 = 16;
+    /// Thread below T: it runs from now on; [`NOBODY`](super::NOBODY) if nobody does.
+    pub const SWITCH: u8 = 17;
+    /// Thread below T: it holds the section that it wanted.
+    pub const WON: u8 = 18;
+    /// Thread below T: it waits.
+    pub const LOST: u8 = 19;
+    /// Thread below T: it goes to the line's end.
+    pub const YIELD: u8 = 20;
+}
+
+/// The question that has the answer No; what was lent keeps its content.
+pub mod refused {
+    /// Has the plan 2 bytes or more, with T and S in range?
+    pub const PLAN_COUNTS: u8 = 1;
+    /// Is it exactly 2 + 3T long?
+    pub const PLAN_LENGTH: u8 = 2;
+    /// Is every priority 1 to 64?
+    pub const PRIORITY: u8 = 3;
+    /// Is every needs bit at S or above zero?
+    pub const NEEDS: u8 = 4;
+    /// Has the dump or list 2 bytes or more, and N at most 20,000?
+    pub const COUNT: u8 = 5;
+    /// Is it exactly 2 + 3N long?
+    pub const LENGTH: u8 = 6;
+    /// Is every kind allowed?
+    pub const KIND: u8 = 7;
+    /// Is every operand allowed for its kind?
+    pub const OPERAND: u8 = 8;
+    /// (bench) Does the machine admit every call, each made with earlier reports already given?
+    pub const CALL: u8 = 9;
+    /// (bench) Are calls and reports together at most 20,000?
+    pub const TOO_MANY: u8 = 10;
+    /// (bench) Is the lent output at least 2 + 3 times their number long?
+    pub const OUTPUT: u8 = 11;
+    /// (step) Is the lent watch state well formed? interface/beltcairn.h says what that asks. Asked before 7.
+    pub const STATE: u8 = 12;
+    /// (step) Is it no Tick at tick number 4,000,000,000? Asked after 8.
+    pub const TICK: u8 = 13;
+}
+
+/// The rule that a record breaks: the first that has the answer No.
+pub mod breach {
+    /// (calls) Is nothing due?
+    pub const REPORT_DUE: u8 = 21;
+    /// (kinds 2 to 6) Does a thread run?
+    pub const NOBODY_RUNS: u8 = 22;
+    /// (Create) Is the thread dormant?
+    pub const NOT_DORMANT: u8 = 23;
+    /// (Delay, End) Does the caller hold no section?
+    pub const HOLDS_SECTION: u8 = 24;
+    /// (Take) Does the caller need it?
+    pub const NOT_NEEDED: u8 = 25;
+    /// (Take) Is it not held by the caller?
+    pub const HELD_ALREADY: u8 = 26;
+    /// (Give) Is it the one the caller took last of those it still holds?
+    pub const NOT_TAKEN_LAST: u8 = 27;
+    /// (reports) Is a report due?
+    pub const NONE_DUE: u8 = 28;
+    /// (reports) Is the first due of this kind?
+    pub const OTHER_KIND: u8 = 29;
+    /// (reports) Does it name this thread?
+    pub const OTHER_THREAD: u8 = 30;
+}
