@@ -97,8 +97,8 @@ fn refused(watch: Watch, kind: u8, operand: u16) -> u8
     0
 }
 
-// One record that passed 12, 7, 8 and 13: a walk over a dump that has it alone. Nearly every record of a show is a Tick at which nobody wakes,
-// which moves the tick number alone and is not walked over.
+// One record that passed 12, 7, 8 and 13: a walk over a dump that has it alone. A Tick at which nobody wakes moves the tick number alone, and is
+// not walked over: the whole check does so little for it that a walk would be many times that.
 fn judged(state: State, kind: u8, operand: u16) -> Stepped
     requires { ⌜ Asked state kind operand ⌝ }
     ensures { λ r. ⌜ Advances (r .state) (r .chosen) (r .rule) state (recordOf kind operand) ⌝ }

@@ -10,11 +10,10 @@ use borrow.Author.Tests.{ne-eqb}
 use lib.Dec.{eqb}
 use lib.ListN.{replicate}
 use Rattle.model.specs.Searches.{countFrom}
-use Rattle.model.specs.State.{dormant, asleep, waiting}
+use Rattle.model.specs.State.{dormant, waiting}
 use Rattle.model.specs.Calls.{sleepsUntil, wanted}
 use Rattle.model.specs.Rules.{isDormant}
 use Rattle.model.specs.Formed.{lastWake, inWaits}
-use Rattle.model.proofs.Laws.{tag}
 use Rattle.machine.specs.declared.time.Tick.{Tick}
 use Rattle.machine.specs.View.{conditionOf, conditionIn, conditionsOf}
 use Rattle.machine.specs.Contracts.{wakesAt}
@@ -48,12 +47,6 @@ module _ (s n w : ℕ) where
 
   pub wakes-asleep : s ≡ 2 → wakesAt (conditionOf s n w) ≡ w
   wakes-asleep e = rw e
-
-  -- a thread asleep sleeps until its own tick number
-  pub asleep-until : (k : ℕ) → conditionOf s n w ≡ asleep k → w ≡ k
-  asleep-until k e =
-      by-state (w ≡ k) (λ q. absurd (omega (arith, rw q at (ap tag e)))) (λ q. absurd (omega (arith, rw q at (ap tag e)))) (λ q. rw q at (ap wakesAt e))
-      (λ q. absurd (omega (arith, rw q at (ap tag e)))) (λ h. absurd (omega (arith, ap tag (sym (at-none h) ∙ e))))
 
   pub wakes-other : s ≢ 2 → wakesAt (conditionOf s n w) ≡ lastWake
   wakes-other k = by-state (wakesAt (conditionOf s n w) ≡ lastWake) (λ e. rw e) (λ e. rw e) (λ e. absurd (k e)) (λ e. rw e) (λ h. ap wakesAt (at-none h))

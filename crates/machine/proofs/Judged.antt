@@ -7,7 +7,7 @@ use mathlib.Core.List.{List}
 use mathlib.Core.Option.{Option, none, some}
 use Prim.Native.Nat.{ℕ, suc, _≤_, _<_}
 use native.Mathlib.Omega.{arith}
-use borrow.Author.Tests.{eq-eqb, ne-eqb, lt-ltb, le-ltb}
+use borrow.Author.Tests.{eq-eqb, ne-eqb, lt-ltb}
 use lib.Dec.{eqb}
 use lib.ListN.{drop}
 use Rattle.model.specs.Searches.{isEmpty}
@@ -48,15 +48,6 @@ some-rule (some n) rule e d = ap {B = Option ℕ} some (sym e)
 chosen-given : (p : plan.Plan) (st : state.State) (r : records.Report) → chosen p (deliver r st) ≡ chosen p st
 unfolding chosen current greatestHold
 chosen-given p st r = refl
-
--- the report that breaks neither 29 nor 30 is the first due
-first-is : (d g : Report) → 16 ≤ g .kind → dueRule d (g .kind) (g .who) ≡ 0 → d ≡ g
-first-is d g k z = go (equal? (d .kind) (g .kind)) (equal? (d .who) (g .who)) (rw (le-ltb (g .kind) 16 k) at z)
-  where
-    go : (d .kind ≡ g .kind) ⊎ (d .kind ≢ g .kind) → (d .who ≡ g .who) ⊎ (d .who ≢ g .who) → _≡_ {A = ℕ} (cond (eqb (d .kind) (g .kind)) (cond (eqb (d .who) (g .who)) 0 30) 29) 0 → d ≡ g
-    go (inl a) (inl b) e = λ i. record { kind = a i; who = b i }
-    go (inl a) (inr b) e = absurd (omega (arith, rw (eq-eqb (d .kind) (g .kind) a, ne-eqb (d .who) (g .who) b) at e))
-    go (inr a) b e = absurd (omega (arith, rw (ne-eqb (d .kind) (g .kind) a) at e))
 
 pub barred-stands : {c : Reporting} → Stands c → (rule : ℕ) → Stands (barred c rule)
 barred-stands s n = record { chosen' = s .chosen'; apart' = record { apart = s .apart' .apart }; quiet' = s .quiet' }
