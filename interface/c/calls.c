@@ -1,6 +1,8 @@
-/* Calls every function of the library as a C program does, and holds the answers and the layout to what document 01 and the header state. */
+/* Calls every function of the library as a C program does, and holds the answers and the layout to what documents 01 and 02 and the header
+ * state. */
 #include "expect.h"
 #include "runs.h"
+#include "timer_runs.h"
 
 #include <stdio.h>
 #include <string.h>
@@ -47,18 +49,33 @@ static int same_lists(const struct beltcairn_machine *a, const struct beltcairn_
            a->waits.count == b->waits.count;
 }
 
+static int same_timers(const struct beltcairn_timers *a, const struct beltcairn_timers *b)
+{
+    return memcmp(a->expiries, b->expiries, sizeof a->expiries) == 0 && memcmp(a->periods, b->periods, sizeof a->periods) == 0 &&
+           a->arming.stage == b->arming.stage && a->arming.timer == b->arming.timer && a->arming.start == b->arming.start;
+}
+
+static int same_reports(const struct beltcairn_reports *a, const struct beltcairn_reports *b)
+{
+    int alike = a->count == b->count;
+    for (size_t i = 0; i < BELTCAIRN_ROOM; i++) {
+        alike = alike && a->items[i].kind == b->items[i].kind && a->items[i].operand == b->items[i].operand;
+    }
+    return alike;
+}
+
 static int same_machine(const struct beltcairn_machine *a, const struct beltcairn_machine *b)
 {
     return a->plan.threads == b->plan.threads && a->plan.sections == b->plan.sections &&
            memcmp(a->plan.bases, b->plan.bases, 16) == 0 && memcmp(a->plan.needs, b->plan.needs, 32) == 0 && a->tick == b->tick &&
            a->slots.states == b->slots.states && a->slots.wants == b->slots.wants && memcmp(a->wakes, b->wakes, 64) == 0 &&
-           same_lists(a, b) && a->reported == b->reported;
+           same_lists(a, b) && a->reported == b->reported && same_timers(&a->timers, &b->timers);
 }
 
 int same(const struct beltcairn_watch *a, const struct beltcairn_watch *b)
 {
-    return same_machine(&a->state.machine, &b->state.machine) && memcmp(a->state.due.items, b->state.due.items, 34) == 0 &&
-           a->state.due.count == b->state.due.count && a->state.given == b->state.given && a->rule == b->rule;
+    return same_machine(&a->state.machine, &b->state.machine) && same_reports(&a->state.due, &b->state.due) &&
+           a->state.given == b->state.given && a->rule == b->rule;
 }
 
 /* The verdict of the whole check. */
@@ -117,11 +134,18 @@ static void check_bench(const struct Run *run)
     EXPECT(run->name, records == KEPT && filled(out, 0, sizeof out));
 }
 
+/* A dump may end inside an arming, a call list may not. */
+static int ends_inside_arming(const struct Run *run)
+{
+    const uint8_t last = run->count == 0 ? 0 : run->records[run->count - 1].kind;
+    return last == ARM || last == START;
+}
+
 static void check_run(const struct Run *run)
 {
     check_whole(run);
     check_steps(run);
-    if (run->answer == 0 && run->due == 0) {
+    if (run->answer == 0 && run->due == 0 && !ends_inside_arming(run)) {
         check_bench(run);
     }
 }
@@ -181,9 +205,11 @@ static void refused_dumps_and_lists(void)
     refused_bytes(6, 6, (const uint8_t[]){1, 0, CREATE, 0}, 4);
     refused_bytes(6, 6, (const uint8_t[]){0, 0, 0}, 3);
     refused_bytes(7, 7, (const uint8_t[]){1, 0, 0, 0, 0}, 5);
-    refused_bytes(7, 7, (const uint8_t[]){1, 0, 8, 0, 0}, 5);
-    refused_bytes(7, 7, (const uint8_t[]){1, 0, 21, 0, 0}, 5);
+    refused_bytes(7, 7, (const uint8_t[]){1, 0, 12, 0, 0}, 5);
+    refused_bytes(7, 7, (const uint8_t[]){1, 0, 15, 0, 0}, 5);
+    refused_bytes(7, 7, (const uint8_t[]){1, 0, 23, 0, 0}, 5);
     refused_bytes(0, 7, (const uint8_t[]){1, 0, READY, 0, 0}, 5);
+    refused_bytes(0, 7, (const uint8_t[]){1, 0, LATE, 0, 0}, 5);
     refused_bytes(8, 8, (const uint8_t[]){1, 0, CREATE, 3, 0}, 5);
     refused_bytes(8, 8, (const uint8_t[]){1, 0, TAKE, 1, 0}, 5);
     refused_bytes(8, 8, (const uint8_t[]){1, 0, DELAY, 0, 0}, 5);
@@ -191,6 +217,21 @@ static void refused_dumps_and_lists(void)
     refused_bytes(8, 0, (const uint8_t[]){1, 0, SWITCH, 0xfe, 0xff}, 5);
     refused_bytes(0, 9, (const uint8_t[]){1, 0, RELINQUISH, 0, 0}, 5);
     refused_bytes(0, 9, (const uint8_t[]){2, 0, CREATE, CREATE, 0, 0, 0, 0}, 8);
+}
+
+static void refused_timer_records(void)
+{
+    refused_bytes(8, 8, (const uint8_t[]){1, 0, ARM, 8, 0}, 5);
+    refused_bytes(8, 8, (const uint8_t[]){1, 0, ARM, 0, 1}, 5);
+    refused_bytes(8, 8, (const uint8_t[]){1, 0, START, 0, 0}, 5);
+    refused_bytes(8, 8, (const uint8_t[]){1, 0, CANCEL, 8, 0}, 5);
+    refused_bytes(8, 0, (const uint8_t[]){1, 0, EXPIRE, 8, 0}, 5);
+    refused_bytes(8, 0, (const uint8_t[]){1, 0, EXPIRE, 0xff, 0xff}, 5);
+    refused_bytes(0, 9, (const uint8_t[]){1, 0, ARM, 0, 0}, 5);
+    refused_bytes(0, 9, (const uint8_t[]){2, 0, CREATE, START, 0, 0, 1, 0}, 8);
+    refused_bytes(0, 9, (const uint8_t[]){2, 0, CREATE, CANCEL, 0, 0, 0, 0}, 8);
+    refused_bytes(0, 9, (const uint8_t[]){2, 0, CREATE, ARM, 0, 0, 0, 0}, 8); /* the list ends inside an arming */
+    refused_bytes(0, 9, (const uint8_t[]){3, 0, CREATE, ARM, START, 0, 0, 0, 0, 1, 0}, 11);
 }
 
 /* Two threads of equal priority: 5 records start them, and each Relinquish makes 3. 6,665 of them make 20,000 records; one more is refused. */
@@ -217,12 +258,17 @@ int main(void)
     for (size_t i = 0; i < sizeof runs / sizeof runs[0]; i++) {
         check_run(&runs[i]);
     }
+    for (size_t i = 0; i < sizeof timer_runs / sizeof timer_runs[0]; i++) {
+        check_run(&timer_runs[i]);
+    }
     struct Run p12 = run_p12();
     check_run(&p12);
     refused_plans();
     refused_dumps_and_lists();
+    refused_timer_records();
     most_records();
     check_layout();
+    check_timers();
     printf("%d passed, %d failed\n", passed, failed);
     return failed > 0;
 }

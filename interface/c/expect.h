@@ -1,4 +1,4 @@
-/* What calls.c and layout.c share. */
+/* What calls.c, layout.c and timers.c share. */
 #ifndef EXPECT_H
 #define EXPECT_H
 
@@ -13,11 +13,17 @@ enum {
     TAKE = BELTCAIRN_KIND_TAKE,
     GIVE = BELTCAIRN_KIND_GIVE,
     TICK = BELTCAIRN_KIND_TICK,
+    ARM = BELTCAIRN_KIND_ARM,
+    START = BELTCAIRN_KIND_START,
+    PERIOD = BELTCAIRN_KIND_PERIOD,
+    CANCEL = BELTCAIRN_KIND_CANCEL,
     READY = BELTCAIRN_KIND_READY,
     SWITCH = BELTCAIRN_KIND_SWITCH,
     WON = BELTCAIRN_KIND_WON,
     LOST = BELTCAIRN_KIND_LOST,
-    YIELD = BELTCAIRN_KIND_YIELD
+    YIELD = BELTCAIRN_KIND_YIELD,
+    EXPIRE = BELTCAIRN_KIND_EXPIRE,
+    LATE = BELTCAIRN_KIND_LATE
 };
 
 /* What a number that is not to change has before a call. */
@@ -30,7 +36,25 @@ void expect(int holds, const char *name, const char *what, const char *file, int
 /* Whether two watch states have the same content, field by field, since the bytes between fields mean nothing. */
 int same(const struct beltcairn_watch *a, const struct beltcairn_watch *b);
 
-/* layout.c: the number of the interface, the states that the library makes, and states made here and lent to it. */
+/* A clean step, with so many reports due behind it. */
+void step(struct beltcairn_watch *watch, uint8_t kind, uint16_t operand, uint64_t due);
+
+/* A step that question `answer` refuses; nothing changes. */
+void refused_step(struct beltcairn_watch watch, uint8_t answer, uint8_t kind, uint16_t operand);
+
+/* Whether report i of those due, from 0, is this one. */
+int owes(const struct beltcairn_state *state, size_t i, uint8_t kind, uint16_t operand);
+
+/* The watch state of 16 threads and 16 sections: thread i has priority i + 1 and needs section i. */
+struct beltcairn_watch largest(void);
+
+/* A state made by hand: thread 0 runs and holds the section that thread 2 waits for, thread 1 sleeps until tick number 9, and it is 7. */
+struct beltcairn_watch made(void);
+
+/* layout.c: the number of the interface, the states that the library makes, and states made there and lent to it. */
 void check_layout(void);
+
+/* timers.c: the same for the timers and their reports. */
+void check_timers(void);
 
 #endif

@@ -3,7 +3,7 @@
 
 #include <string.h>
 
-/* Conditions of threads; nobody where a byte names a thread. */
+/* Conditions of threads; nobody where a byte names the thread. */
 enum { DORMANT, IS_READY, ASLEEP, WAITING };
 enum { NOBODY = 255 };
 
@@ -16,22 +16,24 @@ enum { NOBODY = 255 };
     (offsetof(struct beltcairn_##type, field) == (offset) && sizeof(((struct beltcairn_##type *)0)->field) == (size))
 #define TYPE(function, ...) _Generic(&beltcairn_##function, __VA_ARGS__ : 1, default : 0)
 
-ABI(1, SIZE(plan, 64) && AT(plan, threads, 0, 8) && AT(plan, sections, 8, 8) && AT(plan, bases, 16, 16) && AT(plan, needs, 32, 32));
-ABI(1, SIZE(slots, 16) && AT(slots, states, 0, 8) && AT(slots, wants, 8, 8));
-ABI(1, SIZE(queue, 16) && AT(queue, items, 0, 8) && AT(queue, count, 8, 8));
-ABI(1, SIZE(holds, 24) && AT(holds, sections, 0, 8) && AT(holds, threads, 8, 8) && AT(holds, count, 16, 8));
-ABI(1, SIZE(report, 2) && AT(report, kind, 0, 1) && AT(report, who, 1, 1));
-ABI(1, SIZE(reports, 48) && AT(reports, items, 0, 34) && AT(reports, count, 40, 8));
-ABI(1, SIZE(machine, 216) && AT(machine, plan, 0, 64) && AT(machine, tick, 64, 4) && AT(machine, slots, 72, 16));
-ABI(1, AT(machine, wakes, 88, 64) && AT(machine, queue, 152, 16) && AT(machine, holds, 168, 24) && AT(machine, waits, 192, 16));
-ABI(1, AT(machine, reported, 208, 1));
-ABI(1, SIZE(state, 272) && AT(state, machine, 0, 216) && AT(state, due, 216, 48) && AT(state, given, 264, 8));
-ABI(1, SIZE(watch, 280) && AT(watch, state, 0, 272) && AT(watch, rule, 272, 1) && _Alignof(struct beltcairn_watch) == 8);
-ABI(1, TYPE(abi, uint32_t (*)(void)));
-ABI(1, TYPE(check, uint8_t (*)(const uint8_t *, size_t, const uint8_t *, size_t, uint64_t *, uint64_t *)));
-ABI(1, TYPE(bench, uint8_t (*)(const uint8_t *, size_t, const uint8_t *, size_t, uint8_t *, size_t, uint64_t *)));
-ABI(1, TYPE(begin, uint8_t (*)(const uint8_t *, size_t, struct beltcairn_watch *)));
-ABI(1, TYPE(step, uint8_t (*)(struct beltcairn_watch *, uint8_t, uint16_t, uint64_t *)));
+ABI(2, SIZE(plan, 64) && AT(plan, threads, 0, 8) && AT(plan, sections, 8, 8) && AT(plan, bases, 16, 16) && AT(plan, needs, 32, 32));
+ABI(2, SIZE(slots, 16) && AT(slots, states, 0, 8) && AT(slots, wants, 8, 8));
+ABI(2, SIZE(queue, 16) && AT(queue, items, 0, 8) && AT(queue, count, 8, 8));
+ABI(2, SIZE(holds, 24) && AT(holds, sections, 0, 8) && AT(holds, threads, 8, 8) && AT(holds, count, 16, 8));
+ABI(2, SIZE(report, 4) && AT(report, kind, 0, 1) && AT(report, operand, 2, 2));
+ABI(2, SIZE(reports, 112) && AT(reports, items, 0, 100) && AT(reports, count, 104, 8));
+ABI(2, SIZE(arming, 4) && AT(arming, stage, 0, 1) && AT(arming, timer, 1, 1) && AT(arming, start, 2, 2));
+ABI(2, SIZE(timers, 52) && AT(timers, expiries, 0, 32) && AT(timers, periods, 32, 16) && AT(timers, arming, 48, 4));
+ABI(2, SIZE(machine, 264) && AT(machine, plan, 0, 64) && AT(machine, tick, 64, 4) && AT(machine, slots, 72, 16));
+ABI(2, AT(machine, wakes, 88, 64) && AT(machine, queue, 152, 16) && AT(machine, holds, 168, 24) && AT(machine, waits, 192, 16));
+ABI(2, AT(machine, reported, 208, 1) && AT(machine, timers, 212, 52));
+ABI(2, SIZE(state, 384) && AT(state, machine, 0, 264) && AT(state, due, 264, 112) && AT(state, given, 376, 8));
+ABI(2, SIZE(watch, 392) && AT(watch, state, 0, 384) && AT(watch, rule, 384, 1) && _Alignof(struct beltcairn_watch) == 8);
+ABI(2, TYPE(abi, uint32_t (*)(void)));
+ABI(2, TYPE(check, uint8_t (*)(const uint8_t *, size_t, const uint8_t *, size_t, uint64_t *, uint64_t *)));
+ABI(2, TYPE(bench, uint8_t (*)(const uint8_t *, size_t, const uint8_t *, size_t, uint8_t *, size_t, uint64_t *)));
+ABI(2, TYPE(begin, uint8_t (*)(const uint8_t *, size_t, struct beltcairn_watch *)));
+ABI(2, TYPE(step, uint8_t (*)(struct beltcairn_watch *, uint8_t, uint16_t, uint64_t *)));
 
 /* The linked library has the header's number. */
 static void one_interface(void)
@@ -61,10 +63,10 @@ static int holds(const struct beltcairn_holds *holds, size_t i, uint8_t section,
     return i < holds->count && entry(holds->sections, i) == section && entry(holds->threads, i) == thread;
 }
 
-static int owes(const struct beltcairn_state *state, size_t i, uint8_t kind, uint8_t who)
+int owes(const struct beltcairn_state *state, size_t i, uint8_t kind, uint16_t operand)
 {
     const struct beltcairn_report *report = &state->due.items[state->given + i];
-    return state->given + i < state->due.count && report->kind == kind && report->who == who;
+    return state->given + i < state->due.count && report->kind == kind && report->operand == operand;
 }
 
 static int is_in(const struct beltcairn_machine *m, size_t thread, uint8_t state)
@@ -82,8 +84,7 @@ static int waits_for(const struct beltcairn_machine *m, size_t thread, uint8_t s
     return is_in(m, thread, WAITING) && entry(m->slots.wants, thread) == section;
 }
 
-/* The watch state of 16 threads and 16 sections: thread i has priority i + 1 and needs section i. */
-static struct beltcairn_watch largest(void)
+struct beltcairn_watch largest(void)
 {
     uint8_t plan[50] = {16, 16};
     struct beltcairn_watch watch;
@@ -108,7 +109,7 @@ static void largest_plan(void)
     EXPECT("largest plan", watch.state.due.count == 0 && watch.state.given == 0 && watch.rule == 0);
 }
 
-static void step(struct beltcairn_watch *watch, uint8_t kind, uint16_t operand, uint64_t due)
+void step(struct beltcairn_watch *watch, uint8_t kind, uint16_t operand, uint64_t due)
 {
     uint64_t told = KEPT;
     EXPECT("step", beltcairn_step(watch, kind, operand, &told) == 0);
@@ -182,15 +183,14 @@ static void states_of_one_thread(void)
     step(&watch, TAKE, 0, 1), step(&watch, WON, 0, 0), step(&watch, TAKE, 1, 1), step(&watch, WON, 0, 0);
     EXPECT("one thread", m->holds.count == 2 && holds(&m->holds, 0, 1, 0) && holds(&m->holds, 1, 0, 0));
     step(&watch, GIVE, 1, 0), step(&watch, GIVE, 0, 0), step(&watch, DELAY, 300, 1);
-    EXPECT("one thread", m->holds.count == 0 && m->queue.count == 0 && sleeps_until(m, 0, 301) && owes(&watch.state, 0, SWITCH, NOBODY));
+    EXPECT("one thread", m->holds.count == 0 && m->queue.count == 0 && sleeps_until(m, 0, 301) && owes(&watch.state, 0, SWITCH, BELTCAIRN_NOBODY));
     step(&watch, SWITCH, BELTCAIRN_NOBODY, 0), step(&watch, TICK, 0, 0);
     EXPECT("one thread", m->tick == 1 && m->reported == NOBODY && watch.rule == 0);
     EXPECT("one thread", beltcairn_step(&watch, READY, 0, &due) == BELTCAIRN_BREACH_NONE_DUE && due == KEPT);
     EXPECT("one thread", m->tick == 1 && watch.rule == BELTCAIRN_BREACH_NONE_DUE);
 }
 
-/* A state made here: thread 0 runs and holds the section that thread 2 waits for, thread 1 sleeps until tick number 9, and it is 7. */
-static struct beltcairn_watch made(void)
+struct beltcairn_watch made(void)
 {
     struct beltcairn_watch watch;
     struct beltcairn_machine *m = &watch.state.machine;
@@ -250,7 +250,7 @@ static void clean_lent_states(void)
     }
 }
 
-static void refused_step(struct beltcairn_watch watch, uint8_t answer, uint8_t kind, uint16_t operand)
+void refused_step(struct beltcairn_watch watch, uint8_t answer, uint8_t kind, uint16_t operand)
 {
     struct beltcairn_watch before = watch;
     uint64_t due = KEPT;
@@ -292,7 +292,7 @@ static void ill_formed_states(void)
     ILL(watch.state.due.count = 1); /* a report of kind 0 */
     ILL(watch.state.due.count = SIZE_MAX);
     ILL(watch.rule = 20);
-    ILL(watch.rule = 31);
+    ILL(watch.rule = 33);
     ILL(memset(&watch, 0, sizeof watch));
     ILL(memset(&watch, 0xff, sizeof watch));
 #undef ILL
@@ -303,7 +303,8 @@ static void refused_steps(void)
     struct beltcairn_watch watch = made();
     uint64_t due = KEPT;
     refused_step(watch, BELTCAIRN_REFUSED_KIND, 0, 0);
-    refused_step(watch, BELTCAIRN_REFUSED_KIND, 21, 0);
+    refused_step(watch, BELTCAIRN_REFUSED_KIND, 12, 0);
+    refused_step(watch, BELTCAIRN_REFUSED_KIND, 23, 0);
     refused_step(watch, BELTCAIRN_REFUSED_OPERAND, CREATE, 3);
     refused_step(watch, BELTCAIRN_REFUSED_OPERAND, SWITCH, 255);
     watch.state.machine.tick = 4000000000u;

@@ -42,9 +42,13 @@ none-fits n h = below-count 0 n h ∙ le-ltb n 0 (omega arith)
 pub from-one : Exact (record { end = 65536; low = 1; nobody = false }) (between 1 65535)
 from-one n h = rw (lt-ltb n 65536 h, le-leb n 65535 (omega arith), and-true (leb 1 n))
 
+-- every operand of two bytes
+pub any-word : Exact (below 65536) (λ n. leb n 65535)
+any-word n h = below-count 65536 n h ∙ lt-ltb n 65536 h ∙ sym (le-leb n 65535 (omega arith))
+
 -- no operand fits a number beyond the kinds
 pub no-kind : (threads sections k n : ℕ) → 32 ≤ k → operandFits threads sections k n ≡ false
-no-kind threads sections k n h = rw (beyond 1 7 k (omega arith) (omega arith), beyond 16 20 k (omega arith) (omega arith))
+no-kind threads sections k n h = rw (beyond 1 11 k (omega arith) (omega arith), beyond 16 22 k (omega arith) (omega arith))
 
 -- one more kind's bounds in a table
 pub tabled : (threads sections k : ℕ) (table : List Bounds) (b : Bounds) → k < length table → Tabled threads sections k table → Exact b (operandFits threads sections k)

@@ -4,15 +4,15 @@ use Prim.Native.Nat.{ℕ, _≤_}
 use native.Mathlib.Omega.{arith}
 use borrow.Author.Tests.{lt-ltb}
 use lib.Dec.{T, ltb, eqb, ltb→lt}
+use Rattle.model.specs.Records.{nobody}
 use Rattle.model.proofs.Tests.{from-true, or-left, or-right}
-use Rattle.dump.specs.Layout.{nobody}
 use Rattle.dump.specs.Questions.{operandFits}
 use Rattle.dump.proofs.Codec.{each-kind, fits-kind}
 
 pub wider : (threads sections more further k n : ℕ) → threads ≤ more → sections ≤ further → T (operandFits threads sections k n) → T (operandFits more further k n)
 wider threads sections more further k n h g t =
     each-kind (λ k. T (operandFits threads sections k n) → T (operandFits more further k n))
-    thread same same same section section same (report false) (report (eqb n nobody)) (report false) (report false) (report false)
+    thread same same same section section same same same same same (report false) (report (eqb n nobody)) (report false) (report false) (report false) same same
     k (fits-kind threads sections k n t) t
   where
     same : {A : Type 0} → A → A

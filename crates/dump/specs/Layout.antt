@@ -1,12 +1,11 @@
--- The dump and the call list, in the order of document 01. A byte past the end counts as 0.
+-- The dump and the call list, in the order of the papers. A byte past the end counts as 0.
 use mathlib.Core.Bool.{cond}
 use mathlib.Core.List.{List, [], _∷_, _++_, map}
-use mathlib.Core.Option.{Option, none, some}
 use Prim.Native.Nat.{ℕ, _+_, _*_, _-_, _/_, _%_}
 use lib.Dec.{eqb}
 use lib.ListN.{length}
 use Rattle.model.specs.Searches.{countFrom, upTo}
-use Rattle.model.specs.Records.{Create, Delay, Relinquish, End, Take, Give, Tick, Ready, Switch, Won, Lost, Yield, Call, Record, call, report, callKind, reportKind, named}
+use Rattle.model.specs.Records.{TimerCall, Arm, Start, Period, Cancel, Create, Delay, Relinquish, End, Take, Give, Tick, Timing, Ready, Switch, Won, Lost, Yield, Expire, Late, Call, Record, call, report, callKind, reportKind, operand, operandNumber, operandThread}
 use Rattle.plan.specs.Words.{byte, word}
 
 -- N in two bytes, low byte first
@@ -21,13 +20,6 @@ kindAt bytes i = byte bytes (2 + i)
 abbrev pub operandAt : List ℕ → (i : ℕ) → ℕ
 operandAt bytes i = word bytes (2 + recordCount bytes + 2 * i)
 
--- Switch to nobody is 65535.
-abbrev pub nobody : ℕ
-nobody = 65535
-
-abbrev pub threadOf : (operand : ℕ) → Option ℕ
-threadOf n = cond (eqb n nobody) none (some n)
-
 -- the record of a kind with an operand; which kinds there are is question 7, and any other number is read as the last of them
 abbrev pub recordOf : (kind operand : ℕ) → Record
 recordOf k n =
@@ -38,10 +30,16 @@ recordOf k n =
     (cond (eqb k 5) (call (Take n))
     (cond (eqb k 6) (call (Give n))
     (cond (eqb k 7) (call Tick)
+    (cond (eqb k 8) (call (Timing (Arm n)))
+    (cond (eqb k 9) (call (Timing (Start n)))
+    (cond (eqb k 10) (call (Timing (Period n)))
+    (cond (eqb k 11) (call (Timing (Cancel n)))
     (cond (eqb k 16) (report (Ready n))
-    (cond (eqb k 17) (report (Switch (threadOf n)))
+    (cond (eqb k 17) (report (Switch (operandThread n)))
     (cond (eqb k 18) (report (Won n))
-    (cond (eqb k 19) (report (Lost n)) (report (Yield n))))))))))))
+    (cond (eqb k 19) (report (Lost n))
+    (cond (eqb k 20) (report (Yield n))
+    (cond (eqb k 21) (report (Expire n)) (report (Late n))))))))))))))))))
 
 -- what is read as record i
 abbrev pub recordAt : List ℕ → (i : ℕ) → Record
@@ -61,6 +59,12 @@ abbrev pub kindOf : Record → ℕ
 kindOf (call k) = callKind k
 kindOf (report r) = reportKind r
 
+abbrev pub timerOperand : TimerCall → ℕ
+timerOperand (Arm i) = i
+timerOperand (Start n) = n
+timerOperand (Period n) = n
+timerOperand (Cancel i) = i
+
 abbrev pub callOperand : Call → ℕ
 callOperand (Create t) = t
 callOperand (Delay n) = n
@@ -69,14 +73,11 @@ callOperand End = 0
 callOperand (Take s) = s
 callOperand (Give s) = s
 callOperand Tick = 0
-
-abbrev pub threadNumber : Option ℕ → ℕ
-threadNumber none = nobody
-threadNumber (some t) = t
+callOperand (Timing k) = timerOperand k
 
 abbrev pub operandOf : Record → ℕ
 operandOf (call k) = callOperand k
-operandOf (report r) = threadNumber (named r)
+operandOf (report r) = operandNumber (operand r)
 
 -- a number in two bytes, low byte first
 abbrev pub twoBytes : ℕ → List ℕ

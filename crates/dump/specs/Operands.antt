@@ -5,8 +5,8 @@ use mathlib.Core.List.{List}
 use Prim.Native.Nat.{ℕ, _<_, min}
 use lib.Dec.{eqb, leb, ltb}
 use lib.ListN.{getD}
+use Rattle.model.specs.Records.{nobody}
 use Rattle.dump.specs.declared.questions.Bounds.{Bounds}
-use Rattle.dump.specs.Layout.{nobody}
 use Rattle.dump.specs.Questions.{operandFits}
 
 -- below end from low on, and else 65535 where nobody may be named

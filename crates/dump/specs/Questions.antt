@@ -7,34 +7,39 @@ use Prim.Native.Nat.{ℕ, _+_, _*_, _≤_}
 use lib.Dec.{eqb, leb, ltb}
 use lib.ListN.{length}
 use Rattle.model.specs.Searches.{all, upTo}
+use Rattle.model.specs.Records.{timerCount, nobody}
 use Rattle.model.specs.Rules.{Question, _asks_, firstNo}
 use Rattle.plan.specs.Bytes.{between}
-use Rattle.dump.specs.Layout.{recordCount, kindAt, operandAt, nobody}
+use Rattle.dump.specs.Layout.{recordCount, kindAt, operandAt}
 
 -- the greatest number of records
 abbrev pub mostRecords : ℕ
 mostRecords = 20000
 
--- kinds: calls 1 to 7, reports 16 to 20
+-- kinds: calls 1 to 11, reports 16 to 22
 
 abbrev pub isCall : (kind : ℕ) → Bool
-isCall k = between 1 7 k
+isCall k = between 1 11 k
 
 abbrev pub isReport : (kind : ℕ) → Bool
-isReport k = between 16 20 k
+isReport k = between 16 22 k
 
 -- a dump has both, a call list calls only
 abbrev pub kindAllowed : (callsOnly : Bool) (kind : ℕ) → Bool
 kindAllowed callsOnly k = cond callsOnly (isCall k) (isCall k || isReport k)
 
 -- Operand: thread below T for Create and reports (or 65535 for Switch), section below S for Take and Give, 1 to 65535 for Delay, 0 for
--- Relinquish, End, Tick.
+-- Relinquish, End, Tick. Timer 0 to 7 for Arm, Cancel and Expire, 1 to 65535 for Start, 0 to 65535 for Period and Late.
 
 abbrev pub callFits : (threads sections kind operand : ℕ) → Bool
-callFits threads sections k n = cond (eqb k 1) (ltb n threads) (cond (eqb k 2) (between 1 65535 n) (cond (between 5 6 k) (ltb n sections) (eqb n 0)))
+callFits threads sections k n =
+    cond (eqb k 1) (ltb n threads)
+    (cond (eqb k 2) (between 1 65535 n)
+    (cond (between 5 6 k) (ltb n sections)
+    (cond (eqb k 8) (ltb n timerCount) (cond (eqb k 9) (between 1 65535 n) (cond (eqb k 10) (leb n 65535) (cond (eqb k 11) (ltb n timerCount) (eqb n 0)))))))
 
 abbrev pub reportFits : (threads kind operand : ℕ) → Bool
-reportFits threads k n = ltb n threads || (eqb k 17 && eqb n nobody)
+reportFits threads k n = cond (eqb k 21) (ltb n timerCount) (cond (eqb k 22) (leb n 65535) (ltb n threads || (eqb k 17 && eqb n nobody)))
 
 abbrev pub operandFits : (threads sections kind operand : ℕ) → Bool
 operandFits threads sections k n = cond (isCall k) (callFits threads sections k n) (cond (isReport k) (reportFits threads k n) false)

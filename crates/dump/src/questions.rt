@@ -2,12 +2,13 @@
 ghost use mathlib.Core.Path.{_≡_};
 ghost use Prim.Native.Nat.{_≤_};
 ghost use lib.ListN.{length};
-ghost use Rattle.plan.specs.Bytes.{number};
+ghost use Rattle.plan.specs.Bytes.{between, number};
 ghost use Rattle.dump.specs.Questions.{kindAllowed, callFits, reportFits, operandFits, hasCount, hasLength, hasKinds, hasOperands, refusal, Whole};
 ghost use Rattle.dump.specs.Operands.{below, admits, Exact, Tabled};
 use crate::layout::kind_at;
 use crate::layout::operand_at;
 use crate::layout::record_count;
+use clock::timers::TIMERS;
 
 // The greatest number of records.
 pub const MOST_RECORDS: usize = 20000;
@@ -17,8 +18,8 @@ pub fn kind_allowed(list: bool, kind: u8) -> bool
     ensures { λ r. ⌜ r ≡ kindAllowed list kind ⌝ }
 {
     match kind {
-        1..=7 => true,
-        16..=20 => !list,
+        1..=11 => true,
+        16..=22 => !list,
         _ => false,
     }
 }
@@ -43,6 +44,17 @@ impl Bounds {
         }
     }
 
+    // The operands from 1 on.
+    fn from_one() -> Bounds
+        ensures { λ r. ⌜ Exact r (between 1 65535) ⌝ }
+    {
+        Bounds {
+            end: 65536,
+            low: 1,
+            nobody: false,
+        }
+    }
+
     // Whether an operand is one of them. The end is asked first: nearly every operand is below it, so that the branch is guessed right.
     fn admits(self, operand: u16) -> bool
         ensures { λ r. ⌜ r ≡ admits self operand ⌝ }
@@ -61,12 +73,12 @@ fn call_bounds(threads: usize, sections: usize, kind: u8) -> Bounds
 {
     match kind {
         1 => Bounds::below(threads),
-        2 => Bounds {
-            end: 65536,
-            low: 1,
-            nobody: false,
-        },
+        2 => Bounds::from_one(),
         5..=6 => Bounds::below(sections),
+        8 => Bounds::below(TIMERS),
+        9 => Bounds::from_one(),
+        10 => Bounds::below(65536),
+        11 => Bounds::below(TIMERS),
         _ => Bounds::below(1),
     }
 }
@@ -75,6 +87,12 @@ fn call_bounds(threads: usize, sections: usize, kind: u8) -> Bounds
 fn report_bounds(threads: usize, kind: u8) -> Bounds
     ensures { λ r. ⌜ Exact r (reportFits threads kind) ⌝ }
 {
+    if kind == 21 {
+        return Bounds::below(TIMERS);
+    }
+    if kind == 22 {
+        return Bounds::below(65536);
+    }
     let mut named = Bounds::below(threads);
     named.nobody = kind == 17;
     named
@@ -85,8 +103,8 @@ fn bounds_of(threads: usize, sections: usize, kind: u8) -> Bounds
     ensures { λ r. ⌜ Exact r (operandFits threads sections kind) ⌝ }
 {
     match kind {
-        1..=7 => call_bounds(threads, sections, kind),
-        16..=20 => report_bounds(threads, kind),
+        1..=11 => call_bounds(threads, sections, kind),
+        16..=22 => report_bounds(threads, kind),
         _ => Bounds::below(0),
     }
 }

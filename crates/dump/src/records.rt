@@ -3,11 +3,12 @@ ghost use lib.Dec.{T};
 ghost use Rattle.dump.specs.Questions.{operandFits};
 ghost use Rattle.dump.specs.Reading.{Reads};
 use crate::layout::Entry;
+use clock::time::Wait;
 use machine::record::Record;
+use machine::record::TimerCall;
 use machine::reports::Report;
-use machine::time::Wait;
 
-// The record of a kind and an operand that questions 7 and 8 let pass. Nobody, 65535, is the machine's 255.
+// The record of a kind and an operand that questions 7 and 8 let pass.
 pub fn record_of(entry: Entry) -> Record
     requires { ⌜ T (operandFits 16 16 (entry .kind) (entry .operand)) ⌝ }
     ensures { λ r. ⌜ Reads r (entry .kind) (entry .operand) ⌝ }
@@ -17,12 +18,20 @@ pub fn record_of(entry: Entry) -> Record
     let who = (operand % 256) as u8;
     match kind {
         1 => Record::Create(who),
-        2 => Record::Delay(Wait(operand)),
+        2 => Record::Delay(Wait(operand as u32)),
         3 => Record::Relinquish,
         4 => Record::End,
         5 => Record::Take(who),
         6 => Record::Give(who),
         7 => Record::Tick,
-        _ => Record::Report(Report { kind, who }),
+        8 => Record::Timing(TimerCall::Arm(who)),
+        9 => Record::Timing(TimerCall::Start(operand)),
+        10 => Record::Timing(TimerCall::Period(operand)),
+        11 => Record::Timing(TimerCall::Cancel(who)),
+        _ => Record::Report(Report {
+            kind,
+            spare: 0,
+            operand,
+        }),
     }
 }

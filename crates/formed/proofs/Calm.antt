@@ -15,10 +15,11 @@ use Rattle.model.proofs.Loops.{all-of-more}
 use Rattle.lists.specs.Words.{nibble}
 use Rattle.lists.specs.Lists.{queued}
 use Rattle.lists.proofs.Laws.{queued-empty}
+use Rattle.clock.specs.View.{numberAt}
 use Rattle.machine.specs.declared.Machine.{Machine}
 use Rattle.machine.specs.declared.slots.Slots.{Slots}
-use Rattle.machine.specs.declared.time.Tick.{Tick}
-use Rattle.machine.specs.View.{conditionOf, wakeOf, conditionIn, conditionsOf}
+use Rattle.clock.specs.declared.time.Tick.{Tick}
+use Rattle.machine.specs.View.{conditionOf, conditionIn, conditionsOf}
 use Rattle.formed.specs.Contracts.{standsBy, Stood, Calm}
 use Rattle.machine.proofs.Laws.{by-state}
 
@@ -54,10 +55,10 @@ in-range sections s n w a b =
     by-state s n w (T (conditionInRange sections (conditionOf s n w))) (λ e. rw e tt) (λ e. rw e tt) (λ e. rw e b) (λ e. absurd (omega (arith, ltb→lt s 3 a)))
     (λ h. absurd (omega (arith, ltb→lt s 3 a)))
 
-pub calm-range : (slots : Slots) (wakes : List Tick) (threads sections : ℕ) → threads ≤ 16 → Calm (slots .states) threads → all (λ n. leb n lastWake) (map (wakeOf wakes) (upTo 16)) ≡ true
+pub calm-range : (slots : Slots) (wakes : List Tick) (threads sections : ℕ) → threads ≤ 16 → Calm (slots .states) threads → all (λ n. leb n lastWake) (map (numberAt wakes) (upTo 16)) ≡ true
     → all (conditionInRange sections) (conditionsOf threads slots wakes) ≡ true
 calm-range slots wakes threads sections h c e =
-    let early : all (λ n. leb n lastWake) (map (wakeOf wakes) (upTo threads)) ≡ true = all-of-more (λ n. leb n lastWake) (wakeOf wakes) threads 16 h e in
+    let early : all (λ n. leb n lastWake) (map (numberAt wakes) (upTo threads)) ≡ true = all-of-more (λ n. leb n lastWake) (numberAt wakes) threads 16 h e in
     is-true (all (conditionInRange sections) (conditionsOf threads slots wakes))
-    (both-follow (λ t. ltb (nibble (slots .states) t) 3) (wakeOf wakes) (λ n. leb n lastWake) (conditionIn slots wakes) (conditionInRange sections) (upTo threads)
-    (λ t a b. in-range sections (nibble (slots .states) t) (nibble (slots .wants) t) (wakeOf wakes t) a b) (from-true _ c) (from-true _ early))
+    (both-follow (λ t. ltb (nibble (slots .states) t) 3) (numberAt wakes) (λ n. leb n lastWake) (conditionIn slots wakes) (conditionInRange sections) (upTo threads)
+    (λ t a b. in-range sections (nibble (slots .states) t) (nibble (slots .wants) t) (numberAt wakes t) a b) (from-true _ c) (from-true _ early))

@@ -4,3 +4,4 @@ mod Standing
 mod Calm
 mod Outside
 mod Reported
+mod Timing

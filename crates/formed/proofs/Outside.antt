@@ -11,7 +11,7 @@ use Rattle.model.specs.Searches.{all, upTo}
 use Rattle.model.specs.Plan.{threads, validPlan}
 use Rattle.model.specs.Records.{Report, isThread}
 use Rattle.model.specs.State.{condition}
-use Rattle.model.specs.Formed.{lastTick, conditionInRange, areThreads, holdInRange, numbersInRange, heldOnce, times, standsOnce, allStandOnce, dueInRange, formed}
+use Rattle.model.specs.Formed.{lastTick, conditionInRange, areThreads, holdInRange, numbersInRange, timersInRange, heldOnce, times, standsOnce, allStandOnce, dueInRange, formed}
 use Rattle.model.proofs.Tests.{is-false, from-true, from-false, and-left, and-right, and-both}
 use Rattle.model.proofs.Searches.{upTo-at}
 use Rattle.plan.specs.declared.Plan.{Plan}
@@ -20,8 +20,10 @@ use Rattle.plan.proofs.Laws.{threads-view, valid-fits}
 use Rattle.machine.specs.declared.Machine.{Machine}
 use Rattle.lists.specs.Words.{nibble}
 use Rattle.lists.specs.Lists.{queued, held}
+use Rattle.clock.specs.View as timing
+use Rattle.clock.specs.View.{numberAt}
 use Rattle.machine.specs.Lists.{threadOf}
-use Rattle.machine.specs.View.{conditionOf, wakeOf, conditionsOf, planOf, viewed, idle}
+use Rattle.machine.specs.View.{conditionOf, conditionsOf, planOf, viewed, idle}
 use Rattle.formed.specs.Contracts.{Counted, standsBy}
 use Rattle.formed.proofs.Ranges.{queued-by, waits-by}
 use Rattle.machine.proofs.Laws.{condition-at, counts-within}
@@ -124,7 +126,7 @@ stands-by : (q ws : List ℕ) (s n w t : ℕ) → standsBy q ws s t ≡ standsOn
 stands-by q ws s n w t =
     ap₂ (λ (a b : ℕ). eqb (times (λ u. eqb u t) q) a && eqb (times (λ u. eqb u t) ws) b) (sym (queued-by s n w)) (sym (waits-by s n w))
 
--- the questions in the order in which they are asked: the plan, the counts, the numbers, the holds, the threads, the reports due
+-- the questions in the model's order: the plan, the counts, the numbers, the timers, the holds, the threads, the reports due
 module _ (m : Machine) where
   abbrev plan' : Bool
   plan' = validPlan (planOf m)
@@ -166,6 +168,9 @@ module _ (m : Machine) where
   abbrev numbers' : Bool
   numbers' = numbersInRange (planOf m) (idle m)
 
+  abbrev timers' : Bool
+  timers' = timersInRange (timing.view (m .timers))
+
   abbrev once' : Bool
   once' = heldOnce (m .plan .sections) (held (m .holds))
 
@@ -184,7 +189,7 @@ module _ (m : Machine) where
   stand =
       all-agree slotStands threadStands (upTo (m .plan .threads))
       (λ t i.
-      stands-by (queued (m .queue)) (queued (m .waits)) (nibble (m .slots .states) t) (nibble (m .slots .wants) t) (wakeOf (m .wakes) t) t
+      stands-by (queued (m .queue)) (queued (m .waits)) (nibble (m .slots .states) t) (nibble (m .slots .wants) t) (numberAt (m .wakes) t) t
       ∙ ap (λ c. standsOnce (queued (m .queue)) (queued (m .waits)) c t) (sym (condition-at (m .plan .threads) (m .slots) (m .wakes) t (upTo-at (m .plan .threads) i))))
       ∙ ap (λ n. all threadStands (upTo n)) (sym (threads-view (m .plan)))
 
@@ -196,23 +201,23 @@ module _ (m : Machine) where
     abbrev pub IsFormed : Bool → Type 0
     IsFormed r = r ≡ formed (planOf m) (viewed m due)
 
-    questions : plan' && numbers' && once' && threads' && due' ≡ formed (planOf m) (viewed m due)
+    questions : plan' && numbers' && timers' && once' && threads' && due' ≡ formed (planOf m) (viewed m due)
     unfolding formed
-    questions = ap (λ b. plan' && numbers' && once' && b && due') stand
+    questions = ap (λ b. plan' && numbers' && timers' && once' && b && due') stand
 
     -- a well-formed state is so with nothing due, too
     formed-idle : T (formed (planOf m) (viewed m due)) → T (formed (planOf m) (idle m))
     unfolding formed
-    formed-idle t = and-both others (dueInRange (planOf m) []) (and-left others due' t) (and-both few true (le→leb 0 (threads (planOf m) + 1) (omega arith)) tt)
+    formed-idle t = and-both others (dueInRange (planOf m) []) (and-left others due' t) (and-both few true (le→leb 0 (threads (planOf m) + 9) (omega arith)) tt)
       where
         others : Bool
-        others = plan' && numbers' && once' && allStandOnce (planOf m) (viewed m due)
+        others = plan' && numbers' && timers' && once' && allStandOnce (planOf m) (viewed m due)
 
         few : Bool
-        few = leb 0 (threads (planOf m) + 1)
+        few = leb 0 (threads (planOf m) + 9)
 
     pub refused-plan : false ≡ plan' → IsFormed false
-    refused-plan e = no-left due' (no-left threads' (no-left once' (no-left numbers' e))) ∙ questions
+    refused-plan e = no-left due' (no-left threads' (no-left once' (no-left timers' (no-left numbers' e)))) ∙ questions
 
     -- the lists of a well-formed state fit their arrays, so no count of one is greater
     pub refused-counts : false ≡ counts' → IsFormed false
@@ -221,14 +226,17 @@ module _ (m : Machine) where
         sym (is-false is (not-T is (λ t. T-not counts' (from-false counts' (sym e)) (counts-pass (formed-idle t)))))
 
     pub refused-numbers : false ≡ numbers' → IsFormed false
-    refused-numbers e = no-left due' (no-left threads' (no-left once' (no-right plan' e))) ∙ questions
+    refused-numbers e = no-left due' (no-left threads' (no-left once' (no-left timers' (no-right plan' e)))) ∙ questions
+
+    pub refused-timers : false ≡ timers' → IsFormed false
+    refused-timers e = no-left due' (no-left threads' (no-left once' (no-right (plan' && numbers') e))) ∙ questions
 
     pub refused-holds : false ≡ once' → IsFormed false
-    refused-holds e = no-left due' (no-left threads' (no-right (plan' && numbers') e)) ∙ questions
+    refused-holds e = no-left due' (no-left threads' (no-right (plan' && numbers' && timers') e)) ∙ questions
 
     pub refused-threads : false ≡ threads' → IsFormed false
-    refused-threads e = no-left due' (no-right (plan' && numbers' && once') e) ∙ questions
+    refused-threads e = no-left due' (no-right (plan' && numbers' && timers' && once') e) ∙ questions
 
     -- where all before them pass, the reports due decide
-    pub due-decides : {r : Bool} → plan' ≡ true → numbers' ≡ true → once' ≡ true → threads' ≡ true → r ≡ due' → IsFormed r
-    due-decides v n o t e = second-asked (plan' && numbers' && once' && threads') due' (both-yes (both-yes (both-yes v n) o) t) e ∙ questions
+    pub due-decides : {r : Bool} → plan' ≡ true → numbers' ≡ true → timers' ≡ true → once' ≡ true → threads' ≡ true → r ≡ due' → IsFormed r
+    due-decides v n i o t e = second-asked (plan' && numbers' && timers' && once' && threads') due' (both-yes (both-yes (both-yes (both-yes v n) i) o) t) e ∙ questions

@@ -1,61 +1,67 @@
--- The reports due that came from outside: which entries are reports of document 01's, and the laws of a loop over those still to be given.
+-- The reports due that came from outside: which entries are reports of the papers', and the laws of a loop over those still to be given.
 use mathlib.Core.Path.{_≡_, ap, ap₂, sym, _∙_}
 use mathlib.Core.Logic.{_⊎_, inl, inr, _≢_}
-use mathlib.Core.Bool.{Bool, true, false, not, _&&_}
+use mathlib.Core.Bool.{Bool, true, false, _&&_}
 use mathlib.Core.List.{map}
 use Prim.Native.Nat.{ℕ, zero, suc, _+_, _-_, _≤_, _<_}
 use native.Mathlib.Omega.{arith}
 use borrow.Author.Tests.{le-leb, lt-leb, le-ltb, ne-eqb}
-use lib.Dec.{T, eqb, leb, ltb, leb→le, ltb→lt, nltb→le}
+use lib.Dec.{T, leb, ltb, leb→le, not-T}
 use lib.ListN.{length, getD, drop, length-drop, drop-of-length-le, List·getD-eq-default}
 use Rattle.model.specs.Searches.{all, countFrom, upTo}
 use Rattle.model.specs.Plan.{threads}
 use Rattle.model.specs.Records as records
-use Rattle.model.specs.Records.{report, allowed}
+use Rattle.model.specs.Records.{timerCount, Yield, nobody, report, allowed}
 use Rattle.model.specs.Formed.{dueInRange}
-use Rattle.model.proofs.Tests.{split, equal?}
+use Rattle.model.proofs.Tests.{is-false, and-left, and-right, equal?}
 use Rattle.plan.specs.declared.Plan.{Plan}
 use Rattle.plan.specs.View.{Fits, view}
 use Rattle.model.proofs.Loops.{left, turn, done}
 use Rattle.plan.proofs.Laws.{threads-view}
 use Rattle.machine.specs.declared.reports.Report.{Report}
 use Rattle.machine.specs.declared.reports.Reports.{Reports}
-use Rattle.machine.specs.Lists.{reportOf, noReport, owed}
-use Rattle.machine.proofs.Laws.{length-owed}
-use Rattle.formed.proofs.Outside.{no-right, names-thread}
+use Rattle.machine.specs.Lists.{reportRoom, reportOf, noReport, owed}
+use Rattle.machine.specs.Contracts.{IsReport}
+use Rattle.machine.proofs.Laws.{by-kind, length-owed}
+use Rattle.formed.proofs.Outside.{no-right}
 
--- an entry is a report of document 01's: a Switch to nobody, or of a kind from 16 to 20 that names a thread
-module _ (p : Plan) (fits : Fits p) (r : Report) where
+-- an entry is a report of the papers': a Switch to nobody, the Expire of a timer, a Late of two bytes, or of a kind from 16 to 20 that names a thread
+module _ (p : Plan) (r : Report) where
   abbrev isKind : Bool
   isKind = leb 16 (r .kind) && leb (r .kind) 20
 
-  pub to-nobody : r .kind ≡ 17 → r .who ≡ 255 → true ≡ allowed (view p) (report (reportOf r))
+  -- what the code answers
+  abbrev Meets : Bool → Type 0
+  Meets b = b ≡ allowed (view p) (report (reportOf r))
+
+  pub to-nobody : r .kind ≡ 17 → r .operand ≡ nobody → Meets true
   to-nobody e w = rw (e, w)
 
-  -- a kind that is none stands for the report of a thread that no plan has
-  unknown : ((k : ℕ) → 16 ≤ k → k ≤ 20 → r .kind ≢ k) → false ≡ allowed (view p) (report (reportOf r))
-  unknown d = rw (other 16 tt tt, other 17 tt tt, other 18 tt tt, other 19 tt tt, other 20 tt tt, threads-view p) (sym (le-ltb 255 (p .threads) (omega (arith, fits .threads))))
+  pub of-timer : r .kind ≡ 21 → Meets (ltb (r .operand) timerCount)
+  of-timer e = rw e
+
+  pub of-count : r .operand ≤ 65535 → r .kind ≡ 22 → Meets true
+  of-count h e = rw e (sym (le-leb (r .operand) 65535 h))
+
+  -- a number that names no kind stands for the report of a thread that no plan has
+  unknown : Fits p → (IsReport r → ⊥) → reportOf r ≡ Yield nobody → Meets (isKind && ltb (r .operand) (p .threads))
+  unknown fits n e = rw (none, e, threads-view p) (sym (le-ltb nobody (p .threads) (omega (arith, fits .threads))))
     where
-      other : (k : ℕ) → T (leb 16 k) → T (leb k 20) → eqb (r .kind) k ≡ false
-      other k a b = ne-eqb (r .kind) k (d k (leb→le 16 k a) (leb→le k 20 b))
+      is : T isKind → IsReport r
+      is t =
+          record {
+            least = leb→le 16 (r .kind) (and-left (leb 16 (r .kind)) (leb (r .kind) 20) t);
+            most = omega (arith, leb→le (r .kind) 20 (and-right (leb 16 (r .kind)) (leb (r .kind) 20) t));
+          }
 
-  pub to-thread : (r .kind ≡ 17 → r .who ≢ 255) → isKind && ltb (r .who) (p .threads) ≡ allowed (view p) (report (reportOf r))
-  to-thread d = go (split (ltb (r .kind) 16))
-    where
-      Meets : Type 0
-      Meets = isKind && ltb (r .who) (p .threads) ≡ allowed (view p) (report (reportOf r))
+      none : isKind ≡ false
+      none = is-false isKind (not-T isKind (λ t. n (is t)))
 
-      from : (k : ℕ) → r .kind ≡ 16 + k → Meets
-      from zero e = rw (e, threads-view p)
-      from (suc zero) e = rw e (sym (names-thread p (r .who) (d e)))
-      from (suc (suc zero)) e = rw (e, threads-view p)
-      from (suc (suc (suc zero))) e = rw (e, threads-view p)
-      from (suc (suc (suc (suc zero)))) e = rw (e, threads-view p)
-      from (suc (suc (suc (suc (suc k))))) e = rw (le-leb 16 (r .kind) (omega arith), lt-leb (r .kind) 20 (omega arith)) (unknown (λ n a b q. omega arith))
-
-      go : T (ltb (r .kind) 16) ⊎ T (not (ltb (r .kind) 16)) → Meets
-      go (inl t) = let h = ltb→lt (r .kind) 16 t in rw (lt-leb 16 (r .kind) h) (unknown (λ n a b q. omega arith))
-      go (inr t) = from (r .kind - 16) (omega (arith, nltb→le (r .kind) 16 t))
+  pub to-thread : Fits p → (r .kind ≡ 17 → r .operand ≢ nobody) → r .kind ≢ 21 → r .kind ≢ 22 → Meets (isKind && ltb (r .operand) (p .threads))
+  to-thread fits d i l =
+      by-kind r (Meets (isKind && ltb (r .operand) (p .threads)))
+      (λ e. rw (e, threads-view p)) (λ e. rw (e, ne-eqb (r .operand) nobody (d e), threads-view p)) (λ e. rw (e, threads-view p)) (λ e. rw (e, threads-view p)) (λ e. rw (e, threads-view p))
+      (λ e. absurd (i e)) (λ e. absurd (l e)) (unknown fits)
 
 -- those behind the first ones of a list made by counting
 
@@ -106,7 +112,7 @@ fails-from f g i (suc n) k a b e = go (equal? k i) (λ d. fails-from f g (suc i)
 pub behind-fails : {A : Type 0} (f : A → Bool) (g : ℕ → A) (given n k : ℕ) → given ≤ k → k < n → f (g k) ≡ false → all f (drop given (map g (upTo n))) ≡ false
 behind-fails f g given n k a b e = ap (all f) (behind g given n) ∙ fails-from f g given (n - given) k a (omega arith) e
 
--- those still to be given: at most T + 1, each a report of document 01's
+-- those still to be given: at most T + 9, each a report of the papers'
 module _ (p : Plan) (rs : Reports) (given : ℕ) where
   abbrev pub Passes : Bool → Type 0
   Passes b = b ≡ dueInRange (view p) (drop given (owed rs))
@@ -118,19 +124,19 @@ module _ (p : Plan) (rs : Reports) (given : ℕ) where
   AllAllowed b = all (λ d. allowed (view p) (report d)) (drop given (owed rs)) ≡ b
 
   pub none-due : rs .count ≤ given → Passes true
-  none-due h = rw (drop-of-length-le (owed rs) {i = given} (omega (arith, length-owed rs))) (sym (ap (λ b. b && true) (le-leb 0 (threads (view p) + 1) (omega arith))))
+  none-due h = rw (drop-of-length-le (owed rs) {i = given} (omega (arith, length-owed rs))) (sym (ap (λ b. b && true) (le-leb 0 (threads (view p) + 9) (omega arith))))
 
-  pub too-many : p .threads + 1 < rs .count - given → Passes false
-  too-many h = rw (lt-leb (length (drop given (owed rs))) (threads (view p) + 1) (omega (arith, still-due, threads-view p)))
+  pub too-many : p .threads + 9 < rs .count - given → Passes false
+  too-many h = rw (lt-leb (length (drop given (owed rs))) (threads (view p) + 9) (omega (arith, still-due, threads-view p)))
 
   pub one-refused : AllAllowed false → Passes false
-  one-refused e = no-right (leb (length (drop given (owed rs))) (threads (view p) + 1)) (sym e)
+  one-refused e = no-right (leb (length (drop given (owed rs))) (threads (view p) + 9)) (sym e)
 
-  pub all-allowed : rs .count - given ≤ p .threads + 1 → AllAllowed true → Passes true
-  all-allowed h e = rw (le-leb (length (drop given (owed rs))) (threads (view p) + 1) (omega (arith, still-due, threads-view p)), e)
+  pub all-allowed : rs .count - given ≤ p .threads + 9 → AllAllowed true → Passes true
+  all-allowed h e = rw (le-leb (length (drop given (owed rs))) (threads (view p) + 9) (omega (arith, still-due, threads-view p)), e)
 
   -- an entry past the array's end stands for no report
-  pub past-end : Fits p → length (rs .items) ≡ 17 → given < rs .count → 17 < rs .count → Passes false
+  pub past-end : Fits p → length (rs .items) ≡ reportRoom → given < rs .count → reportRoom < rs .count → Passes false
   past-end fits z a b = one-refused (behind-fails (λ d. allowed (view p) (report d)) entry given (rs .count) last (omega arith) (omega arith) refused)
     where
       entry : ℕ → records.Report
@@ -140,4 +146,4 @@ module _ (p : Plan) (rs : Reports) (given : ℕ) where
       last = rs .count - 1
 
       refused : allowed (view p) (report (entry last)) ≡ false
-      refused = rw (List·getD-eq-default (rs .items) noReport {n = last} (omega arith), threads-view p) (le-ltb 255 (p .threads) (omega (arith, fits .threads)))
+      refused = rw (List·getD-eq-default (rs .items) noReport {n = last} (omega arith), threads-view p) (le-ltb nobody (p .threads) (omega (arith, fits .threads)))

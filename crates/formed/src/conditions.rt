@@ -6,12 +6,13 @@ ghost use lib.Dec.{eqb, leb};
 ghost use mathlib.Core.List.{map};
 ghost use Rattle.model.specs.Searches.{all, upTo};
 ghost use Rattle.model.specs.Formed.{lastWake, conditionInRange};
-ghost use Rattle.machine.specs.View.{conditionOf, wakeOf, conditionsOf};
+ghost use Rattle.clock.specs.View.{numberAt};
+ghost use Rattle.machine.specs.View.{conditionOf, conditionsOf};
 ghost use Rattle.formed.specs.Contracts.{Calm};
+use clock::time::LAST_WAKE;
+use clock::time::Tick;
 use lists::nibbles::nibble_at;
 use machine::slots::Slots;
-use machine::time::LAST_WAKE;
-use machine::time::Tick;
 
 // Whether the number names a condition, and its tick number or section is in range.
 fn slot_in_range(state: u8, want: u8, wake: Tick, sections: usize) -> bool
@@ -46,7 +47,7 @@ fn in_range(slots: Slots, wakes: [Tick; 16], threads: usize, sections: usize) ->
 
 // Whether none of sixteen tick numbers is above the greatest that a sleeper waits for: asked at once, without an early end.
 fn in_time(wakes: [Tick; 16]) -> bool
-    ensures { λ r. ⌜ r ≡ all (λ n. leb n lastWake) (map (wakeOf wakes) (upTo 16)) ⌝ }
+    ensures { λ r. ⌜ r ≡ all (λ n. leb n lastWake) (map (numberAt wakes) (upTo 16)) ⌝ }
 {
     let mut pass = true;
     let mut t: usize = 0;

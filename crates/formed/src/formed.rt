@@ -11,6 +11,8 @@ ghost use Rattle.machine.specs.View.{planOf, idle, view};
 ghost use Rattle.formed.specs.Contracts.{Counted, Stood, standsBy};
 use crate::conditions;
 use crate::reports;
+use crate::timers;
+use clock::time::LAST_TICK;
 use lists::nibbles::marks;
 use lists::nibbles::nibble_at;
 use lists::nibbles::tally;
@@ -18,7 +20,6 @@ use lists::queue::Queue;
 use machine::Machine;
 use machine::slots::Slots;
 use machine::state::State;
-use machine::time::LAST_TICK;
 use plan::questions::passes;
 
 // Whether all sixteen threads stand where their conditions say, those past the last thread too: asked of whole words. The lowest bit of a
@@ -126,6 +127,10 @@ pub fn formed(state: State) -> bool
         return false;
     }
     if !numbers_in_range(m) {
+        return false;
+    }
+    let t = m.timers;
+    if !timers::in_range(t) {
         return false;
     }
     let h = m.holds;

@@ -5,24 +5,31 @@ ghost use Rattle.model.specs.Records.{report, allowed};
 ghost use Rattle.model.specs.Formed.{dueInRange};
 ghost use Rattle.plan.specs.View.{Fits, view};
 ghost use Rattle.machine.specs.Lists.{reportOf, owed};
+use machine::reports::ROOM;
 use machine::reports::Report;
 use machine::reports::Reports;
 use plan::Plan;
 
-// A report of document 01's.
+// A report of the papers': of a thread of the plan, or a Switch to nobody, an Expire of one of the eight timers, or a Late, whatever its count.
 fn is_report(entry: Report, plan: Plan) -> bool
     requires { ⌜ Fits plan ⌝ }
     ensures { λ r. ⌜ r ≡ allowed (view plan) (report (reportOf entry)) ⌝ }
 {
     let kind = entry.kind;
-    let who = entry.who;
-    if kind == 17 && who == 255 {
+    let operand = entry.operand;
+    if kind == 17 && operand == 65535 {
         return true;
     }
-    16 <= kind && kind <= 20 && (who as usize) < plan.threads
+    if kind == 21 {
+        return operand < 8;
+    }
+    if kind == 22 {
+        return true;
+    }
+    16 <= kind && kind <= 20 && (operand as usize) < plan.threads
 }
 
-// Whether those behind the first `given` are at most T + 1, each one of document 01's: kind 16 to 20, naming a thread, or nobody for Switch.
+// Whether those behind the first `given` are at most T + 9, each a report of the papers'.
 pub(crate) fn in_range(reports: Reports, given: usize, plan: Plan) -> bool
     requires { ⌜ Fits plan ⌝ }
     ensures { λ r. ⌜ r ≡ dueInRange (view plan) (drop given (owed reports)) ⌝ }
@@ -33,7 +40,7 @@ pub(crate) fn in_range(reports: Reports, given: usize, plan: Plan) -> bool
         return true;
     }
     let threads = plan.threads;
-    if 17 < n || threads + 1 < n - given {
+    if ROOM < n || threads + 9 < n - given {
         return false;
     }
     let mut i: usize = given;

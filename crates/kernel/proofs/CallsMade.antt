@@ -1,7 +1,7 @@
 -- A run over the calls of a list: what is known after k calls, each made with the reports of earlier ones given.
 use mathlib.Core.Path.{_≡_, refl, ap, sym, subst, _∙_}
 use mathlib.Core.Logic.{_⊎_, inl, inr, _≢_}
-use mathlib.Core.Bool.{Bool, cond}
+use mathlib.Core.Bool.{Bool, true, false, cond}
 use mathlib.Core.List.{List, [], _∷_, _++_, map, append-assoc, append-nil}
 use mathlib.Core.Option.{Option, none, some}
 use Prim.Native.Nat.{ℕ, _+_, _*_, _≤_, _<_}
@@ -12,6 +12,7 @@ use lib.ListN.{length, drop, length-append, length-map}
 use Rattle.model.specs.Plan as model
 use Rattle.model.specs.Records as records
 use Rattle.model.specs.Records.{Call, call, report, allowed}
+use Rattle.model.specs.Timers.{isComplete}
 use Rattle.model.specs.State as state
 use Rattle.model.specs.Priorities.{chosen}
 use Rattle.model.specs.Runs.{moved, broke, step}
@@ -45,13 +46,17 @@ behind-both : (a b : List records.Record) (o : Option (List records.Record)) →
 behind-both a b none = refl
 behind-both a b (some rs) = ap {B = Option (List records.Record)} some (sym (append-assoc a b rs))
 
--- after k calls: the state, the chosen thread, and the records so far; a call makes T + 1 reports at most, so 18 records
+behind-last : (a : List records.Record) (b : Bool) → behind a (cond b (some []) none) ≡ cond b (some a) none
+behind-last a true = ap {B = Option (List records.Record)} some (append-nil a)
+behind-last a false = refl
+
+-- after k calls: the state, the chosen thread, and the records so far; a call makes T + 9 reports at most, so 26 records
 pub record CallsMade (p : Plan) (list : List ℕ) (k : ℕ) (s : State) (who : ℕ) (done : List records.Record) : Type 0 where
   pub plan' : s .machine .plan ≡ p
   pub reached : Reached (plans.view p) (view s)
   pub tick : view s .tickNumber ≤ k
   pub chosen' : who ≡ numbered (chosen (plans.view p) (view s))
-  pub few : length done ≤ 18 * k
+  pub few : length done ≤ 26 * k
   pub so-far : madeOf p list ≡ behind done (benchFrom (plans.view p) (view s) (drop k (calls list)))
 
 -- at the start nobody is chosen and nothing is written
@@ -79,11 +84,19 @@ behind-within rs none t = absurd t
 behind-within rs (some rest) t = omega (arith, length-append rs rest)
 
 module _ {p : Plan} {ceilings list : List ℕ} {n : ℕ} (passed : Passed p ceilings list n) {k : ℕ} {s : State} {who : ℕ} {done : List records.Record} (m : CallsMade p list k s who done) where
-  -- after the last call the records so far are all
-  pub made-all : n ≤ k → madeOf p list ≡ some done
+  -- after the last call the records so far are all, where no arming is in progress
+  pub made-all : n ≤ k → madeOf p list ≡ cond (isComplete (view s .timers .arming)) (some done) none
   made-all h =
       m .so-far ∙ ap (λ (ks : List Call). behind done (benchFrom (plans.view p) (view s) ks)) (calls-end passed k h)
-      ∙ ap (behind done) (bench-ended (plans.view p) (view s)) ∙ ap {B = Option (List records.Record)} some (append-nil done)
+      ∙ ap (behind done) (bench-ended (plans.view p) (view s)) ∙ behind-last done (isComplete (view s .timers .arming))
+
+  -- where something is written, none is
+  pub made-written : n ≤ k → T (isMade (madeOf p list)) → madeOf p list ≡ some done
+  made-written h t = go (isComplete (view s .timers .arming)) (made-all h)
+    where
+      go : (b : Bool) → madeOf p list ≡ cond b (some done) none → madeOf p list ≡ some done
+      go true e = e
+      go false e = absurd (subst (λ (l : Option (List records.Record)). T (isMade l)) e t)
 
   -- what holds for the plan holds for the plan that the state carries
   carried : (P : model.Plan → Type 0) → P (plans.view p) → P (planOf (s .machine))
@@ -147,7 +160,7 @@ module _ {p : Plan} {ceilings list : List ℕ} {n : ℕ} (passed : Passed p ceil
         tick-after : view (o .state) .tickNumber ≤ k + 1
         tick-after = omega (arith, m .tick, tick-at-most (plans.view p) (view s) (m .reached) (call (callAt list k)) (view (o .state)) moves-call)
 
-        pub made-due : length (view (o .state) .due) ≤ 17
+        pub made-due : length (view (o .state) .due) ≤ 25
         made-due = omega (arith, due-fits (plans.view p) (view (o .state)) reached-call, threads-view p, plan-fits passed .threads)
 
         pub made-formed : IsFormed (o .state)

@@ -8,7 +8,7 @@ use lib.Dec.{T, ltb→lt}
 use lib.ListN.{length}
 use Rattle.model.specs.Searches.{_▷_}
 use Rattle.model.specs.Plan.{Plan, threads}
-use Rattle.model.specs.Records.{Report, Ready, Switch, Won, Lost, Yield, report, isThread, allowed}
+use Rattle.model.specs.Records.{Report, Ready, Switch, Won, Lost, Yield, Expire, Late, report, isThread, allowed}
 use Rattle.model.specs.State.{State, switchedTo, latestSwitch, setReported, setDue}
 use Rattle.model.specs.Runs.{deliver}
 use Rattle.model.specs.Formed.{formed}
@@ -31,6 +31,8 @@ switched-known p w (Switch v) h a t e = ltb→lt t (threads p) (subst (λ (o : O
 switched-known p w (Won u) h a t e = h t e
 switched-known p w (Lost u) h a t e = h t e
 switched-known p w (Yield u) h a t e = h t e
+switched-known p w (Expire i) h a t e = h t e
+switched-known p w (Late n) h a t e = h t e
 
 module _ (p : Plan) (st : State) (d : Report) (q : st .due ≡ d ∷ tail (st .due)) where
   -- the first report due is given: the state stays well formed
@@ -45,6 +47,8 @@ module _ (p : Plan) (st : State) (d : Report) (q : st .due ≡ d ∷ tail (st .d
         sleeps = w .sleeps;
         tick = w .tick;
         reported' = switched-known p (st .reported) d (w .reported') (w .known d (subst (λ l. Mem d l) (sym q) (here refl)));
+        arms = w .arms;
+        expires = w .expires;
         few = omega (arith, w .few, ap length q);
         known = λ r m. w .known r (subst (λ l. Mem r l) (sym q) (there m));
       }

@@ -13,6 +13,7 @@ use Rattle.machine.specs.Contracts.{FirstDue, Delivers}
 use Rattle.machine.proofs.Laws.{kind-is}
 use Rattle.dump.specs.Layout.{kindOf, operandOf}
 use Rattle.kernel.specs.Contracts.{recordPut, recordsPut, ReportsFit, Places}
+use Rattle.kernel.proofs.ReportBytes.{operand-is}
 use Rattle.kernel.proofs.Giving.{Giving, giving-begin, giving-due, giving-next, giving-done, none-left}
 
 pub record Putting (n i : ℕ) (first : State) (before : List ℕ) (at : ℕ) (s : State) (out : List ℕ) : Type 0 where
@@ -30,13 +31,12 @@ module _ {n i : ℕ} {first : State} {before : List ℕ} where
     pub putting-fits : ReportsFit first n i before → 0 < length (view s .due) → at < n
     putting-fits h d = omega (arith, u .count, h .within)
 
-    pub putting-next : (r : code.Report) (x : ℕ) (s' : State) (out' : List ℕ) → FirstDue r s → Delivers s' s r → x ≡ operandOf (report (reportOf r))
-        → out' ≡ recordPut n at (r .kind) x out → Putting n i first before (at + 1) s' out'
-    putting-next r x s' out' f d e q =
+    pub putting-next : (r : code.Report) (s' : State) (out' : List ℕ) → FirstDue r s → Delivers s' s r → out' ≡ recordPut n at (r .kind) (r .operand) out → Putting n i first before (at + 1) s' out'
+    putting-next r s' out' f d q =
         let due = giving-due (u .giving) f d in
         let given = report (reportOf r) in
         let same : out' ≡ recordPut n at (kindOf given) (operandOf given) out =
-        q ∙ ap (λ y. recordPut n at (r .kind) y out) e ∙ ap (λ k. recordPut n at k (operandOf given) out) (sym (kind-is r (f .kind')))
+        q ∙ ap (λ y. recordPut n at (r .kind) y out) (operand-is r (f .kind')) ∙ ap (λ k. recordPut n at k (operandOf given) out) (sym (kind-is r (f .kind')))
         in
         record {
           giving = giving-next (u .giving) f d;

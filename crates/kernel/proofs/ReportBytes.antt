@@ -1,23 +1,26 @@
--- The kind and the operand under which a report of the machine is written.
+-- The operand under which a report of the machine is written is the one that it has.
 use mathlib.Core.Path.{_≡_}
-use mathlib.Core.Bool.{true, false}
-use lib.Dec.{eqb}
-use Rattle.model.specs.Records.{report}
+use mathlib.Core.Logic.{_⊎_, inl, inr, _≢_}
+use borrow.Author.Tests.{ne-eqb}
+use Prim.Native.Nat.{ℕ}
+use Rattle.model.specs.Records.{report, nobody, operandNumber, operandThread}
+use Rattle.model.proofs.Tests.{equal?}
 use Rattle.machine.specs.declared.reports.Report.{Report}
 use Rattle.machine.specs.Lists.{reportOf}
 use Rattle.machine.specs.Contracts.{IsReport}
 use Rattle.machine.proofs.Laws.{by-kind}
-use Rattle.dump.specs.Layout.{nobody, operandOf}
+use Rattle.dump.specs.Layout.{operandOf}
 
-module _ (r : Report) where
-  -- a Switch to nobody
-  pub operand-nobody : r .kind ≡ 17 → eqb (r .who) 255 ≡ true → nobody ≡ operandOf (report (reportOf r))
-  operand-nobody e f = rw (e, f)
+-- the thread that a Switch names, and back
+named-back : (n : ℕ) → n ≡ operandNumber (operandThread n)
+named-back n = go (equal? n nobody)
+  where
+    go : (n ≡ nobody) ⊎ (n ≢ nobody) → n ≡ operandNumber (operandThread n)
+    go (inl e) = rw e
+    go (inr d) = rw (ne-eqb n nobody d)
 
-  -- a report that names a thread
-  pub operand-switch : r .kind ≡ 17 → eqb (r .who) 255 ≡ false → r .who ≡ operandOf (report (reportOf r))
-  operand-switch e f = rw (e, f)
-
-  pub operand-other : IsReport r → (r .kind ≡ 17 → ⊥) → r .who ≡ operandOf (report (reportOf r))
-  operand-other i d =
-      by-kind r (r .who ≡ operandOf (report (reportOf r))) (λ e. rw e) (λ e. absurd (d e)) (λ e. rw e) (λ e. rw e) (λ e. rw e) (λ n e. absurd (n i))
+pub operand-is : (r : Report) → IsReport r → r .operand ≡ operandOf (report (reportOf r))
+operand-is r i =
+    by-kind r (r .operand ≡ operandOf (report (reportOf r)))
+    (λ e. rw e) (λ e. rw e (named-back (r .operand))) (λ e. rw e) (λ e. rw e) (λ e. rw e) (λ e. rw e) (λ e. rw e)
+    (λ n e. absurd (n i))

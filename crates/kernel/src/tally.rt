@@ -26,7 +26,7 @@ pub(crate) fn settled(state: State) -> State
     s
 }
 
-// The n calls of a list, each made with earlier reports already given: see model, Bench.bench.
+// The n calls of a list, each made with earlier reports already given: see model, Bench.bench. A list that ends inside an arming is not admitted.
 pub(crate) fn tally(plan: Plan, ceilings: &[u8; 16], list: &[u8], n: usize) -> Counted
     requires { ⌜ Passed plan (now ceilings) (now list) n ⌝ }
     ensures { λ r. ⌜ Tallies r (madeOf plan (now (list .entry))) ⌝ }
@@ -48,6 +48,12 @@ pub(crate) fn tally(plan: Plan, ceilings: &[u8; 16], list: &[u8], n: usize) -> C
         s = settled(moved);
         who = o.chosen;
         k += 1;
+    }
+    if !s.is_complete() {
+        return Counted {
+            admitted: false,
+            records: 0,
+        };
     }
     Counted {
         admitted: true,

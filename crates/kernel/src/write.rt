@@ -2,14 +2,9 @@
 ghost use mathlib.Core.Path.{_≡_};
 ghost use Prim.Native.Nat.{_≤_, _<_};
 ghost use lib.ListN.{length};
-ghost use Rattle.model.specs.Records.{report};
-ghost use Rattle.machine.specs.Lists.{reportOf};
-ghost use Rattle.machine.specs.Contracts.{IsReport};
-ghost use Rattle.dump.specs.Layout.{operandOf};
 ghost use Rattle.kernel.specs.Answers.{recordsOf, bytesFor, atFront};
 ghost use Rattle.kernel.specs.Contracts.{Passed, madeOf, recordPut, ReportsFit, Places, AllFit};
 use dump::place::entry_at;
-use machine::reports::Report;
 use machine::state::State;
 use plan::Plan;
 use walk::single::step;
@@ -31,18 +26,6 @@ fn put(out: &mut [u8], n: usize, i: usize, kind: u8, operand: u16)
     out[at + 1] = (operand / 256) as u8;
 }
 
-// The operand of a report: the thread that it names. Nobody, the machine's 255, is 65535.
-fn operand_of(entry: Report) -> u16
-    requires { ⌜ IsReport entry ⌝ }
-    ensures { λ r. ⌜ r ≡ operandOf (report (reportOf entry)) ⌝ }
-{
-    if entry.kind == 17 && entry.who == 255 {
-        65535
-    } else {
-        entry.who as u16
-    }
-}
-
 // The reports due, each given as it is written.
 fn put_reports(state: State, out: &mut [u8], n: usize, i: usize) -> Placed
     requires { ⌜ ReportsFit state n i (now out) ⌝ }
@@ -52,7 +35,7 @@ fn put_reports(state: State, out: &mut [u8], n: usize, i: usize) -> Placed
     let mut at: usize = i;
     while 0 < s.due_count() {
         let r = s.first_due();
-        put(out, n, at, r.kind, operand_of(r));
+        put(out, n, at, r.kind, r.operand);
         s = s.delivered(r);
         at += 1;
     }

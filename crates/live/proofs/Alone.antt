@@ -1,5 +1,5 @@
--- A record alone, as a dump of five bytes: it is read as that record, and what is asked of it can be asked of the dump. And a Tick at which nobody
--- wakes, which is not walked over.
+-- A record alone, as a dump of five bytes: it is read as that record, and what is asked of it can be asked of the dump. And a Tick at which nothing
+-- happens, which is not walked over.
 use mathlib.Core.Path.{_≡_, refl, ap, sym, subst, _∙_}
 use mathlib.Core.Bool.{true, false, _&&_}
 use mathlib.Core.List.{List, _∷_}
@@ -55,22 +55,25 @@ both : {a b c d : ℕ} → ltb a b && eqb c d ≡ true → (a < b) × (c ≡ d)
 both {a} {b} {c} {d} e = let t = from-true (ltb a b && eqb c d) e in (ltb→lt a b (and-left (ltb a b) (eqb c d) t), eqb→eq c d (and-right (ltb a b) (eqb c d) t))
 
 module _ {s : State} {k n : ℕ} (a : Asked s k n) (is-tick : k ≡ 7) {ceilings : List ℕ} {who : ℕ} (c : Ceilings (s .machine) ceilings) (e : who ≡ numbered (chosen (planOf (s .machine)) (idle (s .machine)))) where
-  -- the state, opened with the tick number before which nobody wakes
+  -- the state, opened with the tick number before which nothing happens
   abbrev still : Reporting
   still = quieted (opened s who)
 
-  tick-asked : still .due ≤ still .given → Calls still ceilings records.Tick
-  tick-asked h =
+  -- before it no arming is in progress
+  tick-asked : still .due ≤ still .given → still .machine .tick .0 + 1 < still .quiet .0 → Calls still ceilings records.Tick
+  tick-asked h below =
+      let stands = quieted-stands (opened-stands s who (chosen-here s e)) in
       record {
         asks =
             record {
               formed' = subst (λ (st : state.State). T (formed (planOf (s .machine)) st)) (sym (opened-shown s who)) (a .formed');
-              stands = quieted-stands (opened-stands s who (chosen-here s e));
+              stands = stands;
               ceilings' = c;
               allowed' = tt;
               tick' = λ z. a .room is-tick;
             };
         undue = h;
+        ordered = stands .quiet' .rests (omega (arith, below));
       }
 
   -- a Tick moves the tick number alone
@@ -80,4 +83,4 @@ module _ {s : State} {k n : ℕ} (a : Asked s k n) (is-tick : k ≡ 7) {ceilings
       let undue : still .due ≤ still .given = ltb-false (still .given) (still .due) (sym (ap (λ (z : Reporting). ltb (z .given) (z .due)) q) ∙ h) in
       let b = both (sym (ap (λ (z : Reporting). ltb (z .machine .tick .0 + 1) (z .quiet .0) && eqb (z .chosen) (z .machine .reported)) q) ∙ t) in
       subst (λ r. Advances s' who 0 s r) (ap (λ j. recordOf j n) (sym is-tick))
-      (closed-advances refl (opened-shown s who) (passed-answers (tick-asked undue) refl (b .0) (b .1)) (subst (Closes s') (p ∙ ap passed q) k))
+      (closed-advances refl (opened-shown s who) (passed-answers (tick-asked undue (b .0)) refl (b .0) (b .1)) (subst (Closes s') (p ∙ ap passed q) k))

@@ -30,8 +30,8 @@ use Rattle.live.specs.Stepwise.{walked, steps, said}
 use Rattle.monitor.proofs.Laws.{Passed, passed}
 
 -- a broken rule is one that can be stored
-rule-stored : (p : Plan) (st : State) (r : Record) (n : ℕ) → step p st r ≡ broke n → T (between 21 30 n)
-rule-stored p st r n e = let b = broken-rule p st r n e in and-both (leb 21 n) (leb n 30) (le→leb 21 n (b .0)) (le→leb n 30 (b .1))
+rule-stored : (p : Plan) (st : State) (r : Record) (n : ℕ) → step p st r ≡ broke n → T (between 21 32 n)
+rule-stored p st r n e = let b = broken-rule p st r n e in and-both (leb 21 n) (leb n 32) (le→leb 21 n (b .0)) (le→leb n 32 (b .1))
 
 -- a test passed by each of a list is passed by each of its first part; and the last of a list is in it
 
@@ -85,9 +85,9 @@ module _ (p : Plan) (v : T (validPlan p)) where
       leaves = rw (passes st 0 f tt h r a, record-back p few r a)
 
     -- the steps after a breach answer its rule, and leave the state as it is
-    module _ (m : ℕ) (b : T (between 21 30 m)) where
+    module _ (m : ℕ) (b : T (between 21 32 m)) where
       not-zero : eqb m 0 ≡ false
-      not-zero = ne-eqb m 0 (λ e. omega (arith, leb→le 21 m (and-left (leb 21 m) (leb m 30) b)))
+      not-zero = ne-eqb m 0 (λ e. omega (arith, leb→le 21 m (and-left (leb 21 m) (leb m 32) b)))
 
       repeats : (r : Record) → T (allowed p r) → reply (with st m) (kindOf r) (operandOf r) ≡ broken m
       unfolding reply

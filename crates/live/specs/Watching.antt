@@ -43,9 +43,9 @@ pub data Reply : Type 0 where
   clean : (due : ℕ) → Reply
   broken : (rule : ℕ) → Reply
 
--- a stored rule is one of document 01's, or none
+-- a stored rule is one of the papers', or none
 abbrev pub isRule : ℕ → Bool
-isRule n = eqb n 0 || between 21 30 n
+isRule n = eqb n 0 || between 21 32 n
 
 -- 12, asked before 7: is the lent state well formed? 7 and 8: kind and operand. 13, asked after 8: is it no Tick at the last tick number?
 abbrev pub questions : Watched → (kind operand : ℕ) → List Question

@@ -8,11 +8,11 @@ ghost use Rattle.walk.specs.Contracts.{Advances};
 ghost use Rattle.live.specs.Watching.{isRule, refusal};
 ghost use Rattle.live.specs.Contracts.{Asked, seen, Begins, Tells};
 ghost use Rattle.live.specs.declared.live.Reply.the-variants as says;
+use clock::time::LAST_TICK;
 use dump::questions::kind_allowed;
 use dump::questions::operand_fits;
 use formed::formed::formed;
 use machine::state::State;
-use machine::time::LAST_TICK;
 use plan::Plan;
 use plan::bytes;
 use plan::ceilings::ceilings;
@@ -67,11 +67,11 @@ pub fn begin(plan: &[u8]) -> Begun
     }
 }
 
-// Whether a stored rule is one of document 01's, or none.
+// Whether a stored rule is one of the papers', or none.
 fn is_rule(rule: u8) -> bool
     ensures { λ r. ⌜ r ≡ isRule rule ⌝ }
 {
-    rule == 0 || (21 <= rule && rule <= 30)
+    rule == 0 || (21 <= rule && rule <= 32)
 }
 
 // 12, 7, 8 and 13, in this order: the number of the first No, 0 if there is none.
@@ -97,7 +97,7 @@ fn refused(watch: Watch, kind: u8, operand: u16) -> u8
     0
 }
 
-// One record that passed 12, 7, 8 and 13: a walk over a dump that has it alone. A Tick at which nobody wakes moves the tick number alone, and is
+// One record that passed 12, 7, 8 and 13: a walk over a dump that has it alone. A Tick at which nothing happens moves the tick number alone, and is
 // not walked over: the whole check does so little for it that a walk would be many times that.
 fn judged(state: State, kind: u8, operand: u16) -> Stepped
     requires { ⌜ Asked state kind operand ⌝ }

@@ -10,7 +10,7 @@ use Rattle.model.specs.State as state
 use Rattle.model.specs.State.{dormant, condition}
 use Rattle.model.specs.Priorities.{chosen}
 use Rattle.model.specs.Calls.{perform, byCaller}
-use Rattle.model.specs.Rules.{holdsNot, lastTaken, broken}
+use Rattle.model.specs.Rules.{holdsNot, lastTaken, stage, broken}
 use Rattle.model.specs.Formed.{lastTick}
 use Rattle.lists.specs.Lists.{numbered}
 use Rattle.machine.specs.declared.Machine.{Machine}
@@ -20,23 +20,26 @@ use Rattle.machine.specs.View.{planOf, viewed, idle}
 use Rattle.machine.specs.Rules.{ruleNumber}
 use Rattle.machine.proofs.Facts.{Formed}
 
--- What each call asks. The caller is the number of the chosen thread, 255 where there is none.
+-- What each call asks. The caller is the number of the chosen thread, 255 where there is none; an arming has come to the call's place.
 
 pub record CreateAsked (m : Machine) (thread : ℕ) : Type 0 where
   pub formed : Formed m
+  pub ordered : stage (idle m .timers .arming) ≡ 0
   pub known : thread < m .plan .threads
 
-pub record Asked (m : Machine) (caller : ℕ) : Type 0 where
+pub record Asked (m : Machine) (caller place : ℕ) : Type 0 where
   pub formed : Formed m
   pub caller' : caller ≡ numbered (chosen (planOf m) (idle m))
+  pub ordered : stage (idle m .timers .arming) ≡ place
 
 pub record SectionAsked (m : Machine) (caller section : ℕ) : Type 0 where
-  pub asked : Asked m caller
+  pub asked : Asked m caller 0
   pub known : section < m .plan .sections
 
 -- the tick number has room to grow
 pub record Ticks (m : Machine) : Type 0 where
   pub formed : Formed m
+  pub ordered : stage (idle m .timers .arming) ≡ 0
   pub room : m .tick .0 < lastTick
 
 -- What the rules say.

@@ -10,10 +10,12 @@ use lib.Dec.{T}
 use lib.ListN.{length, length-append, length-map}
 use Rattle.model.specs.Searches.{_▷_, filter, upTo, without}
 use Rattle.model.specs.Plan.{base, ceiling, validPlan}
-use Rattle.model.specs.Records.{Ready, Won, Lost, Yield}
+use Rattle.model.specs.Records.{timerCount, TimerCall, Arm, Start, Period, Cancel, Ready, Won, Lost, Yield, Expire}
+use Rattle.model.specs.Timers.{Timers, slot, lateDue, expiresAt, expired}
 use Rattle.model.specs.State.{Condition, dormant, asleep, waiting, State, condition, latestSwitch, lastReported, becomes, leaveQueue, joinQueue, arrive, joinWaits, leaveWaits, isHold, beginHold, endHold, owe}
-use Rattle.model.specs.Calls.{create, sleepers, tick, delay, rivalled, relinquish, end, aboveAll, heldByOthers, take, wanted, heir, handOver, give}
+use Rattle.model.specs.Calls.{create, sleepers, tick, delay, rivalled, relinquish, end, aboveAll, heldByOthers, take, wanted, heir, handOver, give, timing}
 use Rattle.model.proofs.Searches.{greatest-is, stayed, distinct-without}
+use Rattle.model.proofs.Loops.{filter-few}
 use Rattle.model.proofs.Laws.{sleeper}
 use Rattle.plan.specs.View as plans
 use Rattle.plan.specs.declared.Plan.{Plan}
@@ -21,17 +23,18 @@ use Rattle.plan.proofs.Laws.{threads-view}
 use Rattle.machine.specs.declared.Machine.{Machine}
 use Rattle.machine.specs.declared.reports.Reports.{Reports}
 use Rattle.lists.specs.Lists.{queued, held}
+use Rattle.machine.specs.Lists.{reportRoom}
 use Rattle.machine.specs.View.{planOf, idle}
 use Rattle.machine.specs.Contracts.{Ceilings, Chooses}
 use Rattle.machine.proofs.Admitted.{Ticks, Creates, Runs, Takes, Gives, Meets}
 use Rattle.machine.proofs.Switched.{Settles}
-use Rattle.machine.proofs.Facts.{Facts, facts}
+use Rattle.machine.proofs.Facts.{Formed, Facts, facts}
 use Rattle.lists.proofs.Laws.{length-queued, length-held}
 use Rattle.machine.proofs.Views.{length-owed}
 use Rattle.machine.proofs.Room.{waiting-known, threads-fit, waiting-room, woken-room, create-room, caller-known, without-room, waits-room, take-room, give-room}
 use Rattle.machine.proofs.Chosen.{listed}
 
--- the lists fit their words and name threads, fewer than 17 reports are due, and none of them is a Switch: the thread last reported is still
+-- the lists fit their words and name threads, there is room for a Switch behind the reports due, and none of them is a Switch: the thread last reported is still
 -- the one reported
 pub record After (threads : ℕ) (st : State) : Type 0 where
   pub queue' : length (st .queue) ≤ 16
@@ -39,7 +42,7 @@ pub record After (threads : ℕ) (st : State) : Type 0 where
   pub waits' : length (st .waits) ≤ 16
   pub known : (t : ℕ) → Mem t (st .queue) → t < threads
   pub waiting' : (t : ℕ) → Mem t (st .waits) → t < threads
-  pub few : length (st .due) < 17
+  pub few : length (st .due) < reportRoom
   pub last : lastReported st ≡ st .reported
 
 -- the lists fit before the call, with nothing due
@@ -90,16 +93,22 @@ created {m} {t} c =
       last = refl;
     }
 
--- Ready is no Switch
+-- Expire and Ready are no Switch
+
 all-ready : (w : Option ℕ) (ts : List ℕ) → latestSwitch w (map Ready ts) ≡ w
 all-ready w [] = refl
 all-ready w (t ∷ ts) = all-ready w ts
+
+none-switched : (w : Option ℕ) (is ts : List ℕ) → latestSwitch w (map Expire is ++ map Ready ts) ≡ w
+none-switched w [] ts = all-ready w ts
+none-switched w (i ∷ is) ts = none-switched w is ts
 
 pub ticked : {m : Machine} → Ticks m → After (m .plan .threads) (tick (idle m))
 unfolding tick
 ticked {m} c =
     let f = facts (c .formed) in
     let woken = sleepers (suc (m .tick .0)) (idle m) in
+    let ended = expired (suc (m .tick .0)) (idle m .timers) in
     let room = woken-room f (suc (m .tick .0)) in
     record {
       queue' = omega (arith, length-append (queued (m .queue)) woken, room);
@@ -107,8 +116,8 @@ ticked {m} c =
       waits' = before f .waits';
       known = known-more (m .plan .threads) (queued (m .queue)) woken (before f .known) (λ t i. omega (arith, sleeper (suc (m .tick .0)) (idle m) t i .0, f .agree .sized, threads-view (m .plan)));
       waiting' = before f .waiting';
-      few = omega (arith, length-map woken Ready, room);
-      last = all-ready (idle m .reported) woken;
+      few = omega (arith, length-append (map Expire ended) (map Ready woken), length-map ended Expire, length-map woken Ready, filter-few (λ i. expiresAt (suc (m .tick .0)) (slot (idle m .timers) i)) (upTo timerCount), room);
+      last = none-switched (idle m .reported) ended woken;
     }
 
 module _ {m : Machine} {x : ℕ} (r : Runs m x) where
@@ -148,6 +157,33 @@ module _ {m : Machine} {x : ℕ} (r : Runs m x) where
             few = omega arith;
             last = refl;
           }
+
+-- at most a Late is due
+few-late : (k : TimerCall) (n : ℕ) (ts : Timers) → length (lateDue k n ts) ≤ 1
+few-late (Arm i) n ts = omega arith
+few-late (Start s) n ts = omega arith
+few-late (Period s) n ts = omega arith
+few-late (Cancel i) n ts = omega arith
+
+late-last : (k : TimerCall) (n : ℕ) (ts : Timers) (w : Option ℕ) → latestSwitch w (lateDue k n ts) ≡ w
+late-last (Arm i) n ts w = refl
+late-last (Start s) n ts w = refl
+late-last (Period s) n ts w = refl
+late-last (Cancel i) n ts w = refl
+
+pub timed : {m : Machine} → Formed m → (k : TimerCall) → After (m .plan .threads) (timing k (idle m))
+unfolding timing
+timed {m} v k =
+    let f = before (facts v) in
+    record {
+      queue' = f .queue';
+      holds' = f .holds';
+      waits' = f .waits';
+      known = f .known;
+      waiting' = f .waiting';
+      few = omega (arith, few-late k (m .tick .0) (idle m .timers));
+      last = late-last k (m .tick .0) (idle m .timers) (idle m .reported);
+    }
 
 pub taken : {m : Machine} {x s : ℕ} → Takes m x s → After (m .plan .threads) (take (planOf m) x s (idle m))
 unfolding take

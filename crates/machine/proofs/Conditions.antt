@@ -14,7 +14,7 @@ use Rattle.model.specs.State.{dormant, waiting}
 use Rattle.model.specs.Calls.{sleepsUntil, wanted}
 use Rattle.model.specs.Rules.{isDormant}
 use Rattle.model.specs.Formed.{lastWake, inWaits}
-use Rattle.machine.specs.declared.time.Tick.{Tick}
+use Rattle.clock.specs.declared.time.Tick.{Tick}
 use Rattle.machine.specs.View.{conditionOf, conditionIn, conditionsOf}
 use Rattle.machine.specs.Contracts.{wakesAt}
 

@@ -6,9 +6,9 @@ use native.Mathlib.Omega.{arith}
 use lib.Dec.{T}
 use Rattle.model.specs.Plan.{validPlan}
 use Rattle.model.specs.State.{waiting, Hold, condition}
-use Rattle.model.specs.Formed.{formed, lastTick}
+use Rattle.model.specs.Formed.{formed, lastTick, armingInRange}
 use Rattle.model.proofs.Searches.{Pairwise}
-use Rattle.model.proofs.Laws.{OtherSection, Agree, well-formed}
+use Rattle.model.proofs.Laws.{OtherSection, Agree, well-formed, in-arming}
 use Rattle.plan.specs.View.{Fits}
 use Rattle.plan.proofs.Laws.{threads-view, valid-fits}
 use Rattle.machine.specs.declared.Machine.{Machine}
@@ -29,6 +29,8 @@ pub record Facts (m : Machine) : Type 0 where
   pub held : (h : Hold) → Mem h (idle m .holds) → (h .section < m .plan .sections) × (h .thread < m .plan .threads)
   pub wants : (t s : ℕ) → condition (idle m) t ≡ waiting s → s < m .plan .sections
   pub tick : m .tick .0 ≤ lastTick
+  -- an arming in progress is of one of the eight timers
+  pub arming : T (armingInRange (idle m .timers .arming))
 
 pub facts : {m : Machine} → Formed m → Facts m
 facts {m} f =
@@ -41,4 +43,5 @@ facts {m} f =
       held = λ h i. let r = w .held h i in (r .0, omega (arith, threads-view (m .plan), r .1));
       wants = w .wants;
       tick = w .tick;
+      arming = in-arming (idle m .timers .arming) (w .arms);
     }

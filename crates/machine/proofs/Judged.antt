@@ -1,14 +1,14 @@
--- What is answered of a record, by whether it breaks a rule. And of records that are no call with nothing due: where something is due a call breaks 21,
--- and a report is compared with the first due; where nothing is due a report breaks 28.
+-- What is answered of a record, by whether it breaks a rule. And of records that are no call with nothing due: outside its place a record breaks 31;
+-- where something is due a call breaks 21, and a report is compared with the first due; where nothing is due a report breaks 28.
 use mathlib.Core.Path.{_≡_, refl, ap, sym, subst, _∙_}
 use mathlib.Core.Logic.{_⊎_, inl, inr, _≢_}
-use mathlib.Core.Bool.{cond}
+use mathlib.Core.Bool.{Bool, cond, not}
 use mathlib.Core.List.{List}
 use mathlib.Core.Option.{Option, none, some}
-use Prim.Native.Nat.{ℕ, suc, _≤_, _<_}
+use Prim.Native.Nat.{ℕ, suc, _%_, _≤_, _<_}
 use native.Mathlib.Omega.{arith}
 use borrow.Author.Tests.{eq-eqb, ne-eqb, lt-ltb}
-use lib.Dec.{eqb}
+use lib.Dec.{T, eqb}
 use lib.ListN.{drop}
 use Rattle.model.specs.Searches.{isEmpty}
 use Rattle.model.specs.Plan as plan
@@ -16,10 +16,12 @@ use Rattle.model.specs.Records as records
 use Rattle.model.specs.Records.{Call, call, report}
 use Rattle.model.specs.State as state
 use Rattle.model.specs.Priorities.{greatestHold, current, chosen}
-use Rattle.model.specs.Rules.{firstNo, broken}
+use Rattle.model.specs.Rules.{firstNo, place, inOrder, laterQuestions, broken}
 use Rattle.model.specs.Runs.{moved, broke, outcome, deliver, effect, step}
-use Rattle.model.proofs.Tests.{equal?}
+use Rattle.model.proofs.Tests.{equal?, split, is-true, is-false}
+use Rattle.plan.proofs.Laws.{threads-view}
 use Rattle.lists.specs.Lists.{numbered}
+use Rattle.clock.specs.Contracts.{kindPlace}
 use Rattle.machine.specs.declared.reports.Report.{Report}
 use Rattle.machine.specs.declared.reporting.Reporting.{Reporting}
 use Rattle.machine.specs.Lists.{threadOf, reportOf, listed}
@@ -27,11 +29,12 @@ use Rattle.machine.specs.View.{planOf, reportAt, shown}
 use Rattle.machine.specs.Rules.{ruleNumber, dueRule}
 use Rattle.machine.specs.Contracts.{IsReport}
 use Rattle.machine.specs.Records.{Named}
-use Rattle.machine.specs.Calls.{Stands, Asks, Answers, barred, unasked, told, Hears}
+use Rattle.machine.specs.Calls.{Stands, Asks, Answers, inPlace, barred, unasked, told, Hears}
+use Rattle.machine.proofs.Facts.{facts}
 use Rattle.machine.proofs.Meets.{alike}
-use Rattle.machine.proofs.ReportKinds.{switches, switches-not}
-use Rattle.machine.proofs.Owing.{drop-next, none-due, first-due, due-known}
-use Rattle.machine.proofs.Questions.{later, first-asked, none-asked, report-asked}
+use Rattle.machine.proofs.ReportKinds.{switches, switches-not, names-one}
+use Rattle.machine.proofs.Owing.{drop-next, none-due, first-due, unowed, due-known}
+use Rattle.machine.proofs.Questions.{later, named-place, calls-below, order-asked, first-asked, none-asked, report-asked}
 use Rattle.machine.proofs.Unbroken.{none-broken}
 
 -- the outcome by the first No
@@ -80,14 +83,34 @@ module _ {c : Reporting} {ceilings : List ℕ} {r : records.Record} (a : Asks c 
   bars : (rule : ℕ) → rule ≡ ruleNumber (broken (planOf (c .machine)) (shown c) r) → rule ≢ 0 → Answers (barred c rule) c r
   bars rule e d = breaks c (barred c rule) refl refl e d (barred-stands (a .stands) rule)
 
+  few : plan.threads (planOf (c .machine)) ≤ 16
+  few = omega (arith, threads-view (c .machine .plan), facts (unowed (c .machine) (reportAt c) (c .due) (c .given) (a .formed')) .fits .threads)
+
+  -- in its place, what is asked stands behind 31
+  in-order : T (inOrder (shown c .timers .arming) r) → broken (planOf (c .machine)) (shown c) r ≡ firstNo (laterQuestions (planOf (c .machine)) (shown c) r)
+  in-order o =
+      let p = planOf (c .machine) in
+      let st = shown c in
+      order-asked p st r ∙ ap (λ b. cond b (firstNo (laterQuestions p st r)) (some 31)) (is-true (inOrder (st .timers .arming) r) o)
+
   -- 28
-  pub unasked-answers : c .due ≤ c .given → (g : records.Report) → r ≡ report g → Answers (unasked c) c r
-  unasked-answers h g e =
+  pub unasked-answers : T (inOrder (shown c .timers .arming) r) → c .due ≤ c .given → (g : records.Report) → r ≡ report g → Answers (unasked c) c r
+  unasked-answers o h g e =
       bars 28
-      (none-asked (planOf (c .machine)) (shown c) g (none-due (reportAt c) (c .due) (c .given) h) ∙ ap (λ (x : records.Record). ruleNumber (broken (planOf (c .machine)) (shown c) x)) (sym e))
+      (none-asked (planOf (c .machine)) (shown c) g (none-due (reportAt c) (c .due) (c .given) h)
+      ∙ sym (ap ruleNumber (in-order o ∙ ap (λ (x : records.Record). firstNo (laterQuestions (planOf (c .machine)) (shown c) x)) e)))
       (λ z. omega arith)
 
-  module _ (h : c .given < c .due) where
+  -- 31
+  out-of-place : T (not (inOrder (shown c .timers .arming) r)) → Answers (barred c 31) c r
+  out-of-place o =
+      let p = planOf (c .machine) in
+      let st = shown c in
+      bars 31
+      (sym (ap ruleNumber (order-asked p st r ∙ ap (λ b. cond b (firstNo (laterQuestions p st r)) (some 31)) (is-false (inOrder (st .timers .arming) r) o))))
+      (λ z. omega arith)
+
+  module _ (h : c .given < c .due) (o : T (inOrder (shown c .timers .arming) r)) where
     abbrev first : Report
     first = reportAt c (c .given)
 
@@ -98,34 +121,38 @@ module _ {c : Reporting} {ceilings : List ℕ} {r : records.Record} (a : Asks c 
         let st = shown c in
         bars 21
         (sym (ap ruleNumber
-        (ap (broken p st) e
+        (in-order o
+        ∙ ap (λ (x : records.Record). firstNo (laterQuestions p st x)) e
         ∙ first-asked p st k
         ∙ ap (λ (l : List records.Report). cond (isEmpty l) (firstNo (later p st k)) (some 21)) (first-due (reportAt c) (c .due) (c .given) h))))
         (λ z. omega arith)
 
     module _ (g : Report) (kind : IsReport g) (e : r ≡ report (reportOf g)) where
       -- 29 and 30
-      compared : dueRule first (g .kind) (g .who) ≡ ruleNumber (broken (planOf (c .machine)) (shown c) r)
+      compared : dueRule first (g .kind) (g .operand) ≡ ruleNumber (broken (planOf (c .machine)) (shown c) r)
       compared =
           report-asked (planOf (c .machine)) (shown c) first g (drop (suc (c .given)) (listed (reportAt c) (c .due)))
           (due-known (c .machine) (reportAt c) (c .due) (c .given) (a .formed') (c .given) (omega arith) h) kind (first-due (reportAt c) (c .due) (c .given) h)
-          ∙ ap (λ (x : records.Record). ruleNumber (broken (planOf (c .machine)) (shown c) x)) (sym e)
+          ∙ sym (ap ruleNumber (in-order o ∙ ap (λ (x : records.Record). firstNo (laterQuestions (planOf (c .machine)) (shown c) x)) e))
 
       -- the thread that is then reported
       abbrev reported : ℕ
-      reported = cond (eqb (g .kind) 17) (g .who) (c .machine .reported)
+      reported = cond (eqb (g .kind) 17) (g .operand % 256) (c .machine .reported)
 
       switched : threadOf reported ≡ state.switchedTo (threadOf (c .machine .reported)) (reportOf g)
       switched = go (equal? (g .kind) 17)
         where
           go : (g .kind ≡ 17) ⊎ (g .kind ≢ 17) → threadOf reported ≡ state.switchedTo (threadOf (c .machine .reported)) (reportOf g)
-          go (inl q) = ap (λ b. threadOf (cond b (g .who) (c .machine .reported))) (eq-eqb (g .kind) 17 q) ∙ sym (switches g (threadOf (c .machine .reported)) q)
-          go (inr d) = ap (λ b. threadOf (cond b (g .who) (c .machine .reported))) (ne-eqb (g .kind) 17 d) ∙ sym (switches-not g (threadOf (c .machine .reported)) d)
+          go (inl q) =
+              ap (λ b. threadOf (cond b (g .operand % 256) (c .machine .reported))) (eq-eqb (g .kind) 17 q)
+              ∙ names-one g (planOf (c .machine)) few (subst (λ (x : records.Record). T (records.allowed (planOf (c .machine)) x)) e (a .allowed')) q
+              ∙ sym (switches g (threadOf (c .machine .reported)) q)
+          go (inr d) = ap (λ b. threadOf (cond b (g .operand % 256) (c .machine .reported))) (ne-eqb (g .kind) 17 d) ∙ sym (switches-not g (threadOf (c .machine .reported)) d)
 
       delivered : shown (told c reported) ≡ deliver (reportOf g) (shown c)
-      delivered = alike refl refl refl refl refl switched (drop-next (c .given) (listed (reportAt c) (c .due)))
+      delivered = alike refl refl refl refl refl switched (drop-next (c .given) (listed (reportAt c) (c .due))) refl
 
-      told-answers : dueRule first (g .kind) (g .who) ≡ 0 → Answers (told c reported) c r
+      told-answers : dueRule first (g .kind) (g .operand) ≡ 0 → Answers (told c reported) c r
       told-answers z =
           let p = planOf (c .machine) in
           moves c (told c reported) refl (sym compared ∙ z) refl (delivered ∙ ap (λ (x : records.Record). effect p x (shown c)) (sym e))
@@ -135,17 +162,34 @@ module _ {c : Reporting} {ceilings : List ℕ} {r : records.Record} (a : Asks c 
             quiet' = a .stands .quiet';
           })
 
-    module _ {kind who : ℕ} {x : Reporting} (t : Hears x c kind who) where
-      bars-with : x .rule ≢ 0 → x .rule ≡ ruleNumber (broken (planOf (c .machine)) (shown c) r) → Answers x c r
-      bars-with d e = subst (λ (y : Reporting). Answers y c r) (sym (t .barred' d)) (bars (x .rule) e d)
+  -- a record that is heard, where it stands in its place something is due
+  module _ {kind operand : ℕ} {x : Reporting} (t : Hears x c kind operand) (due : T (inPlace (c .machine) kind) → c .given < c .due) where
+    barred-as : {rule : ℕ} → x .rule ≡ rule → rule ≢ 0 → Answers (barred c rule) c r → Answers x c r
+    barred-as e d w = subst (λ (y : Reporting). Answers y c r) (sym (t .barred' (λ z. d (sym e ∙ z)) ∙ ap (barred c) e)) w
 
-      pub heard-answers : Named kind who r → Answers x c r
-      heard-answers (inl k) =
-          let e : x .rule ≡ 21 = t .rule' ∙ ap (λ b. cond b 21 (cond (eqb (first .kind) kind) (cond (eqb (first .who) who) 0 30) 29)) (lt-ltb kind 16 (k .0)) in
-          let d : x .rule ≢ 0 = λ z. omega (arith, e, z) in
-          subst (λ (y : Reporting). Answers y c r) (sym (t .barred' d ∙ ap (barred c) e)) (call-due (k .1) (k .2))
-      heard-answers (inr k) = go (equal? (x .rule) 0)
-        where
-          go : (x .rule ≡ 0) ⊎ (x .rule ≢ 0) → Answers x c r
-          go (inl z) = subst (λ (y : Reporting). Answers y c r) (sym (t .given' z)) (told-answers (record { kind = kind; who = who }) (k .0) (k .1) (sym (t .rule') ∙ z))
-          go (inr d) = bars-with d (t .rule' ∙ compared (record { kind = kind; who = who }) (k .0) (k .1))
+    ruled : {b : Bool} → inPlace (c .machine) kind ≡ b → x .rule ≡ cond b (dueRule (reportAt c (c .given)) kind operand) 31
+    ruled e = t .rule' ∙ ap (λ b. cond b (dueRule (reportAt c (c .given)) kind operand) 31) e
+
+    -- by its place: outside it, or in it
+    by-place : place r ≡ kindPlace kind → (c .given < c .due → T (inOrder (shown c .timers .arming) r) → x .rule ≡ dueRule (reportAt c (c .given)) kind operand → Answers x c r) → Answers x c r
+    by-place e f = go (split (inPlace (c .machine) kind))
+      where
+        go : T (inPlace (c .machine) kind) ⊎ T (not (inPlace (c .machine) kind)) → Answers x c r
+        go (inl o) = f (due o) (rw e o) (ruled (is-true (inPlace (c .machine) kind) o))
+        go (inr o) = barred-as (ruled (is-false (inPlace (c .machine) kind) o)) (λ z. omega arith) (out-of-place (rw e o))
+
+    pub heard-answers : Named kind operand r → Answers x c r
+    heard-answers (inl k) =
+        by-place (named-place {n = operand} (inl k))
+        (λ h o is.
+        barred-as
+        (is ∙ ap (λ b. cond b 21 (cond (eqb (first h o .kind) kind) (cond (eqb (first h o .operand) operand) 0 30) 29)) (lt-ltb kind 16 (omega (arith, k .2, calls-below (k .0)))))
+        (λ z. omega arith) (call-due h o (k .0) (k .1)))
+    heard-answers (inr k) = by-place (named-place {n = operand} (inr k)) (λ h o is. go h o is (equal? (x .rule) 0))
+      where
+        g : Report
+        g = record { kind = kind; spare = 0; operand = operand }
+
+        go : (h : c .given < c .due) (o : T (inOrder (shown c .timers .arming) r)) → x .rule ≡ dueRule (reportAt c (c .given)) kind operand → (x .rule ≡ 0) ⊎ (x .rule ≢ 0) → Answers x c r
+        go h o is (inl z) = subst (λ (y : Reporting). Answers y c r) (sym (t .given' z)) (told-answers h o g (k .0) (k .1) (sym is ∙ z))
+        go h o is (inr d) = subst (λ (y : Reporting). Answers y c r) (sym (t .barred' d)) (bars (x .rule) (is ∙ compared h o g (k .0) (k .1)) d)

@@ -12,16 +12,17 @@ use Rattle.model.specs.Searches.{upTo}
 use Rattle.model.specs.Plan as model
 use Rattle.model.specs.Records as records
 use Rattle.model.specs.Runs.{moved, broke, step}
-use Rattle.model.specs.Formed.{lastTick, formed}
+use Rattle.model.specs.Formed.{lastTick, armingInRange, formed}
 use Rattle.model.proofs.Laws.{Reached, WellFormed, well-formed, reached-formed}
 use Rattle.plan.specs.View as plans
 use Rattle.plan.specs.declared.Plan.{Plan}
 use Rattle.lists.specs.Choice.{Counts}
+use Rattle.clock.specs.View as timing
 use Rattle.machine.specs.declared.Machine.{Machine}
 use Rattle.machine.specs.declared.state.State.{State}
 use Rattle.machine.specs.declared.reporting.Reporting.{Reporting}
 use Rattle.machine.specs.Lists.{noReport}
-use Rattle.machine.specs.View.{planOf, idle, view, shown}
+use Rattle.machine.specs.View.{planOf, idle, view, reportAt, shown}
 use Rattle.machine.specs.Contracts.{Ceilings, Chooses}
 use Rattle.machine.specs.Calls.{Answers}
 use Rattle.machine.proofs.Views.{sized}
@@ -40,7 +41,8 @@ pub use Rattle.machine.proofs.Sized.{reports-size}
 pub use Rattle.machine.proofs.Views.{length-owed}
 -- a state opened to be moved on from stands for the same state of the model
 pub use Rattle.machine.proofs.Opening.{opened-shown, opened-stands, quieted-stands}
--- what is answered of a record that is heard with something due, of a report with nothing due, and of a Tick that wakes nobody
+-- the place of a record by its kind; what is answered of a record that is heard, of a report with nothing due, and of a Tick at which nothing happens
+pub use Rattle.machine.proofs.Questions.{named-place}
 pub use Rattle.machine.proofs.Judged.{unasked-answers, heard-answers}
 pub use Rattle.machine.proofs.Outcomes.{passed-answers}
 
@@ -55,6 +57,10 @@ formed-facts s f = well-formed (planOf (s .machine)) (view s) (sized (s .machine
 -- the lists of a well-formed machine are within their words
 pub counts-within : (m : Machine) → T (formed (planOf m) (idle m)) → Counts (m .queue) (m .holds) (m .waits)
 counts-within m f = listed (facts {m = m} (record { passes = f })) .counts
+
+-- an arming in progress in a well-formed state is of one of the eight timers
+pub arming-known : (c : Reporting) → T (formed (planOf (c .machine)) (shown c)) → T (armingInRange (timing.view (c .machine .timers) .arming))
+arming-known c f = facts (unowed (c .machine) (reportAt c) (c .due) (c .given) f) .arming
 
 -- in a well-formed state the chosen thread can be asked for, with the ceilings of its plan beside it
 pub asks-chosen : (s : State) (ceilings : List ℕ) → T (formed (planOf (s .machine)) (view s)) → Ceilings (s .machine) ceilings → Chooses (s .machine) ceilings

@@ -1,5 +1,4 @@
 -- What holds of this crate's definitions. Open to other crates is Laws, which lists what they may cite; the rest is this crate's own.
-mod Arrays
 mod Sized
 mod Conditions
 mod Views
@@ -19,5 +18,6 @@ mod Unbroken
 mod Asking
 mod Judged
 mod Outcomes
+mod Timed
 mod Opening
 pub mod Laws

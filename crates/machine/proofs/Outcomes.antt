@@ -1,12 +1,12 @@
--- What a call answers with nothing due: it is made and followed by its Switch, or breaks a rule; or it is a Tick that wakes nobody.
+-- What a call answers with nothing due: it is made and followed by its Switch, or breaks a rule; or it is a Tick at which nothing happens.
 use mathlib.Core.Path.{_≡_, refl, ap, ap₂, sym, subst, _∙_}
 use mathlib.Core.Logic.{_⊎_, inl, inr, _≢_}
 use mathlib.Core.Bool.{Bool, true, false, cond, not, _&&_}
 use mathlib.Core.List.{List, [], _∷_, _++_}
-use Prim.Native.Nat.{ℕ, _+_, _<_}
+use Prim.Native.Nat.{ℕ, _+_, _≤_, _<_}
 use native.Mathlib.Omega.{arith}
 use borrow.Author.Tests.{eq-eqb, ne-eqb, lt-ltb, le-ltb}
-use lib.Dec.{eqb, ltb→lt}
+use lib.Dec.{eqb, leb, leb→le, ltb→lt}
 use lib.ListN.{getD}
 use Rattle.model.specs.Plan as plan
 use Rattle.model.specs.Plan.{threads}
@@ -15,31 +15,31 @@ use Rattle.model.specs.Records.{Call, call, Switch}
 use Rattle.model.specs.State as state
 use Rattle.model.specs.Priorities.{greatestHold, current, chosen}
 use Rattle.model.specs.Calls.{tick, delay, relinquish, end, take, give, perform, switch}
-use Rattle.model.specs.Rules.{broken}
+use Rattle.model.specs.Rules.{callPlace, broken}
 use Rattle.model.specs.Runs.{effect}
-use Rattle.model.proofs.Tests.{equal?}
+use Rattle.model.proofs.Tests.{equal?, and-right}
 use Rattle.model.proofs.Laws.{chosen-is}
 use Rattle.plan.specs.View as plans
 use Rattle.plan.proofs.Laws.{threads-view}
 use Rattle.lists.specs.Lists.{numbered}
 use Rattle.lists.proofs.Laws.{threadOf-numbered}
 use Rattle.machine.specs.declared.Machine.{Machine}
-use Rattle.machine.specs.declared.time.Tick.{Tick}
-use Rattle.machine.specs.declared.reports.Report.{Report}
+use Rattle.clock.specs.declared.time.Tick.{Tick}
 use Rattle.machine.specs.declared.reports.Reports.{Reports}
 use Rattle.machine.specs.declared.reporting.Reporting.{Reporting}
-use Rattle.machine.specs.Lists.{threadOf, reportOf, noReport, listed, owed}
+use Rattle.machine.specs.Lists.{reportRoom, threadOf, reportOf, noReport, switchTo, listed, owed}
 use Rattle.machine.specs.View.{planOf, viewed, idle, reportAt, shown}
 use Rattle.machine.specs.Rules.{ruleNumber}
 use Rattle.machine.specs.Contracts.{owing, passed}
-use Rattle.machine.specs.Calls.{Apart, Stands, Calls, Answers}
+use Rattle.machine.specs.Calls.{Apart, Quiet, Stands, Calls, Answers}
 use Rattle.machine.proofs.Admitted.{CreateAsked, Asked, SectionAsked, Ticks, asked, Makes, by}
-use Rattle.machine.proofs.Arrays.{listed-more, listed-alike}
+use Rattle.model.proofs.Loops.{listed-more, listed-alike}
 use Rattle.machine.proofs.Facts.{Formed, facts}
+use Rattle.machine.proofs.ReportKinds.{switch-to}
 use Rattle.machine.proofs.Room.{queued-known}
-use Rattle.machine.proofs.Quieted.{Quiet, isDelay, call-quiet, quiet-tick}
-use Rattle.machine.proofs.Switched.{chosen-due, switch-none, Settles, switched, unswitched}
-use Rattle.machine.proofs.After.{After, before, created, ticked, delayed, relinquished, ended, taken, given, settles}
+use Rattle.machine.proofs.Quieted.{forgets, call-quiet, quiet-tick}
+use Rattle.machine.proofs.Switched.{chosen-due, switch-none, Settles, one-byte, switched, unswitched}
+use Rattle.machine.proofs.After.{After, before, created, ticked, delayed, relinquished, ended, taken, given, timed, settles}
 use Rattle.machine.proofs.Owing.{none-due, unowed}
 use Rattle.machine.proofs.Asking.{tick-rule, creates, delays, ends, relinquishes, takes, gives}
 use Rattle.machine.proofs.Judged.{breaks, moves}
@@ -55,10 +55,7 @@ module _ (m : Machine) (rs : Reports) (rule who : ℕ) (quiet : Tick) where
   owes = owing m rs rule who quiet
 
   in-array : listed (reportAt owes) (rs .count) ≡ owed rs
-  in-array = listed-alike (λ i. reportOf (reportAt owes i)) (λ i. reportOf (getD (rs .items) i noReport)) (rs .count) (λ i h. ap (λ b. reportOf (cond b (getD (rs .items) i noReport) switch-to)) (lt-ltb i (rs .count) h))
-    where
-      switch-to : Report
-      switch-to = record { kind = 17; who = who }
+  in-array = listed-alike (λ i. reportOf (reportAt owes i)) (λ i. reportOf (getD (rs .items) i noReport)) (rs .count) (λ i h. ap (λ b. reportOf (cond b (getD (rs .items) i noReport) (switchTo who))) (lt-ltb i (rs .count) h))
 
   module _ (e : eqb rule 0 && not (eqb who (m .reported)) ≡ false) where
     none-shown : shown owes ≡ viewed m (owed rs)
@@ -68,14 +65,15 @@ module _ (m : Machine) (rs : Reports) (rule who : ℕ) (quiet : Tick) where
     none-apart = record { apart = inl (ap (λ b. cond b (rs .count + 1) (rs .count)) e) }
 
   module _ (e : eqb rule 0 && not (eqb who (m .reported)) ≡ true) where
-    last-shown : shown owes ≡ viewed m (owed rs ++ (Switch (threadOf who) ∷ []))
-    last-shown =
+    last-shown : who < 256 → shown owes ≡ viewed m (owed rs ++ (Switch (threadOf who) ∷ []))
+    last-shown w =
         ap (λ b. viewed m (listed (reportAt owes) (cond b (rs .count + 1) (rs .count)))) e
         ∙ ap (viewed m)
         (listed-more (λ i. reportOf (reportAt owes i)) (rs .count)
-        ∙ ap₂ (λ (l : List records.Report) (b : Bool). l ++ (reportOf (cond b (getD (rs .items) (rs .count) noReport) (record { kind = 17; who = who })) ∷ [])) in-array (le-ltb (rs .count) (rs .count) (omega arith)))
+        ∙ ap₂ (λ (l : List records.Report) (b : Bool). l ++ (reportOf (cond b (getD (rs .items) (rs .count) noReport) (switchTo who)) ∷ [])) in-array (le-ltb (rs .count) (rs .count) (omega arith))
+        ∙ ap (λ r. owed rs ++ (r ∷ [])) (switch-to who w))
 
-    last-apart : rs .count < 17 → Apart owes
+    last-apart : rs .count < reportRoom → Apart owes
     last-apart h = record { apart = inr (ap (λ b. cond b (rs .count + 1) (rs .count)) e, h) }
 
 -- what each call asks of the machine, with nothing due
@@ -87,10 +85,10 @@ module _ {c : Reporting} {ceilings : List ℕ} where
   formed-idle a = unowed (c .machine) (reportAt c) (c .due) (c .given) (a .asks .formed')
 
   pub create-asked : {t : ℕ} → Calls c ceilings (records.Create t) → CreateAsked (c .machine) t
-  create-asked {t} a = record { formed = formed-idle a; known = omega (arith, ltb→lt t (threads (planOf (c .machine))) (a .asks .allowed'), threads-view (c .machine .plan)) }
+  create-asked {t} a = record { formed = formed-idle a; ordered = a .ordered; known = omega (arith, ltb→lt t (threads (planOf (c .machine))) (a .asks .allowed'), threads-view (c .machine .plan)) }
 
-  pub caller-asked : {k : Call} → Calls c ceilings k → Asked (c .machine) (c .chosen)
-  caller-asked a = record { formed = formed-idle a; caller' = a .asks .stands .chosen' ∙ ap (λ (x : state.State). numbered (chosen (planOf (c .machine)) x)) (comes-idle a) }
+  pub caller-asked : {k : Call} → Calls c ceilings k → Asked (c .machine) (c .chosen) (callPlace k)
+  caller-asked a = record { formed = formed-idle a; ordered = a .ordered; caller' = a .asks .stands .chosen' ∙ ap (λ (x : state.State). numbered (chosen (planOf (c .machine)) x)) (comes-idle a) }
 
   pub take-asked : {n : ℕ} → Calls c ceilings (records.Take n) → SectionAsked (c .machine) (c .chosen) n
   take-asked {n} a = record { asked = caller-asked a; known = ltb→lt n (c .machine .plan .sections) (a .asks .allowed') }
@@ -98,8 +96,12 @@ module _ {c : Reporting} {ceilings : List ℕ} where
   pub give-asked : {n : ℕ} → Calls c ceilings (records.Give n) → SectionAsked (c .machine) (c .chosen) n
   give-asked {n} a = record { asked = caller-asked a; known = ltb→lt n (c .machine .plan .sections) (a .asks .allowed') }
 
+  -- a Delay's wait has two bytes
+  pub short-wait : {n : ℕ} → Calls c ceilings (records.Delay n) → n ≤ 65535
+  short-wait {n} a = leb→le n 65535 (and-right (leb 1 n) (leb n 65535) (a .asks .allowed'))
+
   pub tick-asked : Calls c ceilings records.Tick → Ticks (c .machine)
-  tick-asked a = record { formed = formed-idle a; room = a .asks .tick' refl }
+  tick-asked a = record { formed = formed-idle a; ordered = a .ordered; room = a .asks .tick' refl }
 
   -- a call that breaks no rule leaves enough to go on from
   leaves : (k : Call) → Calls c ceilings k → asked (c .machine) k ≡ 0 → After (c .machine .plan .threads) (perform (planOf (c .machine)) k (idle (c .machine)))
@@ -110,6 +112,7 @@ module _ {c : Reporting} {ceilings : List ℕ} where
   leaves (records.Take n) a z = let w = takes (take-asked a) z in subst (After (c .machine .plan .threads)) (sym (by (w .runs) (λ x. take (planOf (c .machine)) x n))) (taken w)
   leaves (records.Give n) a z = let w = gives (give-asked a) z in subst (After (c .machine .plan .threads)) (sym (by (w .runs) (λ x. give (planOf (c .machine)) x n))) (given w)
   leaves records.Tick a z = ticked (tick-asked a)
+  leaves (records.Timing k) a z = timed (formed-idle a) k
 
   asked-here : {k : Call} → Calls c ceilings k → ruleNumber (broken (planOf (c .machine)) (shown c) (call k)) ≡ asked (c .machine) k
   asked-here {k} a = ap (λ (st : state.State). ruleNumber (broken (planOf (c .machine)) st (call k))) (comes-idle a)
@@ -150,16 +153,16 @@ module _ {c : Reporting} {ceilings : List ℕ} {k : Call} (a : Calls c ceilings 
             moved-by z (none-shown left rs rule who quiet e ∙ unswitched call-settles who is q) (none-apart left rs rule who quiet e)
         go (inl z) (inr d) =
             let e : eqb rule 0 && not (eqb who (left .reported)) ≡ true = rw (eq-eqb rule 0 z, ne-eqb who (left .reported) d) in
-            moved-by z (last-shown left rs rule who quiet e ∙ switched call-settles who is d) (last-apart left rs rule who quiet e (call-settles .room))
+            moved-by z (last-shown left rs rule who quiet e (one-byte call-settles who is) ∙ switched call-settles who is d) (last-apart left rs rule who quiet e (call-settles .room))
         go (inr d) q =
             let e : eqb rule 0 && not (eqb who (left .reported)) ≡ false = rw (ne-eqb rule 0 d) in
             breaks c after (made .plan') (none-shown left rs rule who quiet e ∙ made .kept d ∙ sym (comes-idle a)) (made .rule' ∙ sym (asked-here a)) d (stands (none-apart left rs rule who quiet e))
 
-  -- every call but a Delay keeps the tick number before which nobody wakes
-  pub quiet-answers : isDelay k ≡ false → {who : ℕ} → who ≡ numbered (chosen (planOf left) (idle left)) → Answers (owing left rs rule who (c .quiet)) c (call k)
+  -- a call that does not forget it keeps the tick number before which nothing happens
+  pub quiet-answers : forgets k ≡ false → {who : ℕ} → who ≡ numbered (chosen (planOf left) (idle left)) → Answers (owing left rs rule who (c .quiet)) c (call k)
   quiet-answers d is = call-answers is (call-quiet made d (a .asks .stands .quiet'))
 
--- a Tick that wakes nobody, where the chosen thread is the one reported
+-- a Tick at which nothing happens, where the chosen thread is the one reported
 module _ {c : Reporting} {ceilings : List ℕ} (a : Calls c ceilings records.Tick) (z : c .rule ≡ 0) (below : c .machine .tick .0 + 1 < c .quiet .0) (is : c .chosen ≡ c .machine .reported) where
   abbrev m : Machine
   m = c .machine
@@ -182,7 +185,7 @@ module _ {c : Reporting} {ceilings : List ℕ} (a : Calls c ceilings records.Tic
 
   pub passed-answers : Answers (passed c) c (call records.Tick)
   passed-answers =
-      moves c (passed c) refl (asked-here a ∙ sym (tick-rule m)) z
+      moves c (passed c) refl (asked-here a ∙ sym (tick-rule (tick-asked a))) z
       (passed-shown ∙ sym unswitched-tick ∙ ap (λ (st : state.State). effect (planOf m) (call records.Tick) st) (sym (comes-idle a)))
       (record {
         chosen' = caller-asked a .caller' ∙ ap numbered (sym (ap (chosen (planOf m)) passed-shown ∙ chosen-ticked (planOf m) (m .tick .0 + 1) (idle m)));

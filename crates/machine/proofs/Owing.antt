@@ -10,7 +10,8 @@ use lib.Dec.{T, leb, ltb, le→leb, ltb→lt, nltb→le}
 use lib.ListN.{length, getD, drop, drop-of-length-le, List·getD-eq-default}
 use lib.Seq.{drop-cons, drop-drop}
 use Rattle.model.specs.Plan.{threads, validPlan}
-use Rattle.model.specs.Formed.{numbersInRange, heldOnce, allStandOnce, dueInRange, formed}
+use Rattle.model.specs.Records.{report, allowed}
+use Rattle.model.specs.Formed.{numbersInRange, timersInRange, heldOnce, allStandOnce, dueInRange, formed}
 use Rattle.model.proofs.Tests.{split, and-left, and-both}
 use Rattle.model.proofs.Laws.{well-formed}
 use Rattle.model.proofs.Loops.{listed as entry-listed, length-listed}
@@ -18,7 +19,7 @@ use Rattle.plan.proofs.Laws.{threads-view}
 use Rattle.machine.specs.declared.Machine.{Machine}
 use Rattle.machine.specs.declared.reports.Report.{Report}
 use Rattle.machine.specs.declared.state.State.{State}
-use Rattle.machine.specs.Lists.{reportOf, noReport, listed}
+use Rattle.machine.specs.Lists.{reportRoom, reportOf, noReport, listed}
 use Rattle.machine.specs.View.{planOf, viewed, view}
 use Rattle.machine.specs.Contracts.{IsReport}
 use Rattle.machine.proofs.Facts.{Formed, facts}
@@ -67,24 +68,25 @@ module _ (m : Machine) (at : ℕ → Report) (n given : ℕ) (passes : T (formed
   unowed =
       let p = planOf m in
       let st = viewed m (drop given (listed at n)) in
-      let rest : Bool = validPlan p && numbersInRange p st && heldOnce (p .sections) (st .holds) && allStandOnce p st in
-      let none : T (dueInRange p []) = and-both (leb 0 (threads p + 1)) true (le→leb 0 (threads p + 1) (omega arith)) tt in
+      let rest : Bool = validPlan p && numbersInRange p st && timersInRange (st .timers) && heldOnce (p .sections) (st .holds) && allStandOnce p st in
+      let none : T (dueInRange p []) = and-both (leb 0 (threads p + 9)) true (le→leb 0 (threads p + 9) (omega arith)) tt in
       record { passes = and-both rest (dueInRange p []) (and-left rest (dueInRange p (st .due)) passes) none }
 
-  -- each report due is of one of document 01's kinds
+  -- each report due is one that the plan allows, of one of the papers' kinds
+  pub due-allowed : (i : ℕ) → given ≤ i → i < n → T (allowed (planOf m) (report (reportOf (at i))))
+  due-allowed i a b = well-formed (planOf m) (viewed m (drop given (listed at n))) (sized m) passes .known (reportOf (at i)) (in-due at n given i a b)
+
   pub due-known : (i : ℕ) → given ≤ i → i < n → IsReport (at i)
-  due-known i a b =
-      let w = well-formed (planOf m) (viewed m (drop given (listed at n))) (sized m) passes in
-      is-report (at i) (planOf m) (omega (arith, threads-view (m .plan), facts unowed .fits .threads)) (w .known (reportOf (at i)) (in-due at n given i a b))
+  due-known i a b = is-report (at i) (planOf m) (omega (arith, threads-view (m .plan), facts unowed .fits .threads)) (due-allowed i a b)
 
 -- past the end of an array there is no report
-pub within : (items : List Report) (i : ℕ) → length items ≡ 17 → IsReport (getD items i noReport) → i < 17
-within items i size k = go (split (ltb i 17))
+pub within : (items : List Report) (i : ℕ) → length items ≡ reportRoom → IsReport (getD items i noReport) → i < reportRoom
+within items i size k = go (split (ltb i reportRoom))
   where
-    go : T (ltb i 17) ⊎ T (not (ltb i 17)) → i < 17
-    go (inl u) = ltb→lt i 17 u
+    go : T (ltb i reportRoom) ⊎ T (not (ltb i reportRoom)) → i < reportRoom
+    go (inl u) = ltb→lt i reportRoom u
     go (inr u) =
-        let past : getD items i noReport ≡ noReport = List·getD-eq-default items noReport (omega (arith, nltb→le i 17 u)) in
+        let past : getD items i noReport ≡ noReport = List·getD-eq-default items noReport (omega (arith, nltb→le i reportRoom u)) in
         let z : IsReport noReport = rw past at k in
         absurd (omega (arith, z .least))
 
@@ -93,7 +95,7 @@ module _ (s : State) (passes : T (formed (planOf (s .machine)) (view s))) where
   at i = getD (s .due .items) i noReport
 
   -- those due are in the array
-  pub due-fits : length (s .due .items) ≡ 17 → s .given < s .due .count → s .due .count ≤ 17
+  pub due-fits : length (s .due .items) ≡ reportRoom → s .given < s .due .count → s .due .count ≤ reportRoom
   due-fits size h = omega (arith, within (s .due .items) (s .due .count - 1) size (due-known (s .machine) at (s .due .count) (s .given) passes (s .due .count - 1) (omega arith) (omega arith)))
 
   -- something is due exactly where the count is above those given

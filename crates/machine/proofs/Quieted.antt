@@ -1,34 +1,42 @@
--- A Tick before the tick number at which the first sleeper wakes changes the tick number alone, and every call but a Delay keeps such a number.
+-- A Tick before the tick number at which the next thing happens changes the tick number alone, and most calls keep such a number.
 use mathlib.Core.Path.{_≡_, refl, ap, sym, _∙_}
 use mathlib.Core.Logic.{_⊎_, inl, inr, _≢_}
 use mathlib.Core.Bool.{Bool, true, false, cond, not, true≢false}
 use mathlib.Core.Option.{Option, none, some}
-use mathlib.Core.List.{List, [], _∷_, map, append-nil, List·Memᴰ as Mem, List·Memᴰ·head as here}
-use Prim.Native.Nat.{ℕ, zero, suc, _+_, _≤_, _<_}
+use mathlib.Core.List.{List, [], _∷_, _++_, map, append-nil, List·Memᴰ as Mem, List·Memᴰ·head as here}
+use Prim.Native.Nat.{ℕ, zero, suc, _+_, min, _≤_, _<_}
 use native.Mathlib.Omega.{arith}
+use borrow.Author.Tests.{ne-eqb}
 use lib.Dec.{T, ltb, eqb→eq, ltb→lt, nltb→le}
 use lib.ListN.{length, getD, set}
 use Rattle.model.specs.Searches.{_▷_, upTo}
 use Rattle.model.specs.Plan.{Plan}
 use Rattle.model.specs.Priorities.{chosen}
-use Rattle.model.specs.State.{Condition, dormant, ready, asleep, waiting, State, condition, setTickNumber, allReady, arrive, owe}
-use Rattle.model.specs.Records.{Call, Create, Delay, Relinquish, End, Take, Give, Tick, Ready}
+use Rattle.model.specs.Timers as model
+use Rattle.model.specs.Timers.{Timer, Timers, noArming, afterArm, afterStart, isComplete, slot, expiresAt, expired, movedOn, moveOn}
+use Rattle.model.specs.State.{Condition, dormant, ready, asleep, waiting, State, condition, setTickNumber, setTimers, arrive, owe}
+use Rattle.model.specs.Records.{timerCount, Call, Create, Delay, Relinquish, End, Take, Give, Tick, Timing, Ready, Expire}
 use Rattle.model.specs.Calls.{create, sleepsUntil, sleepers, tick, rivalled, relinquish, end, aboveAll, heldByOthers, take, heir, handOver, give, byCaller, perform}
+use Rattle.model.specs.Rules.{stage}
 use Rattle.model.proofs.Tests.{split, equal?}
 use Rattle.model.proofs.Searches.{filtered, upTo-at}
 use Rattle.model.proofs.Laws.{tag}
 use Rattle.model.proofs.Loops.{length-listed, unlisted}
+use Rattle.clock.specs.View as timing
+use Rattle.clock.specs.Contracts.{soonest as soonestExpiry}
+use Rattle.clock.proofs.Laws.{soonest-least as soonest-expiry}
 use Rattle.machine.specs.declared.Machine.{Machine}
 use Rattle.machine.specs.declared.reports.Reports.{Reports}
 use Rattle.machine.specs.View.{conditionIn, conditionsOf, planOf, idle}
-use Rattle.machine.specs.Contracts.{wakesAt, soonest}
+use Rattle.machine.specs.Contracts.{wakesAt, soonest, nextEventOf}
+use Rattle.machine.specs.Calls.{Quiet}
 use Rattle.machine.proofs.Admitted.{Makes}
 use Rattle.machine.proofs.Views.{condition-at}
 use Rattle.machine.proofs.Meets.{alike}
 
--- no sleeper wakes before this tick number
-abbrev pub Quiet : Machine → (until : ℕ) → Type 0
-Quiet m until = (t n : ℕ) → t < m .plan .threads → conditionIn (m .slots) (m .wakes) t ≡ asleep n → until ≤ n
+-- before tick number 0 nothing happens
+pub unknown-quiet : (m : Machine) → Quiet m 0
+unknown-quiet m = record { sleepers' = λ t n h e. omega arith; timers' = λ i t e. omega arith; rests = λ h. absurd (omega arith) }
 
 -- the soonest is at most the tick number at which any of them wakes
 soonest-least : (cs : List Condition) (t : ℕ) → soonest cs ≤ wakesAt (getD cs t dormant)
@@ -36,24 +44,49 @@ soonest-least [] t = omega arith
 soonest-least (c ∷ cs) zero = omega arith
 soonest-least (c ∷ cs) (suc t) = omega (arith, soonest-least cs t)
 
-pub soonest-quiet : (m : Machine) → Quiet m (soonest (conditionsOf (m .plan .threads) (m .slots) (m .wakes)))
-soonest-quiet m t n h e =
-    omega (arith, soonest-least (conditionsOf (m .plan .threads) (m .slots) (m .wakes)) t, ap wakesAt (condition-at (m .plan .threads) (m .slots) (m .wakes) t h ∙ e))
+pub next-quiet : (m : Machine) → Quiet m (nextEventOf m)
+next-quiet m = go (idle m .timers .arming) refl
+  where
+    first : ℕ
+    first = soonest (conditionsOf (m .plan .threads) (m .slots) (m .wakes))
 
-abbrev pub isDelay : Call → Bool
-isDelay (Create t) = false
-isDelay (Delay n) = true
-isDelay Relinquish = false
-isDelay End = false
-isDelay (Take s) = false
-isDelay (Give s) = false
-isDelay Tick = false
+    next : ℕ
+    next = soonestExpiry (timing.view (m .timers) .slots)
 
--- the same, of the conditions alone
+    outside : idle m .timers .arming ≡ noArming → Quiet m (min first next)
+    outside e =
+        record {
+          sleepers' = λ t n h q. omega (arith, soonest-least (conditionsOf (m .plan .threads) (m .slots) (m .wakes)) t, ap wakesAt (condition-at (m .plan .threads) (m .slots) (m .wakes) t h ∙ q));
+          timers' = λ i t q. omega (arith, soonest-expiry (timing.view (m .timers) .slots) i t q);
+          rests = λ h. ap stage e;
+        }
+
+    go : (a : model.Arming) → idle m .timers .arming ≡ a → Quiet m (cond (isComplete (idle m .timers .arming)) (min first next) 0)
+    go noArming e = rw e (outside e)
+    go (afterArm i) e = rw e (unknown-quiet m)
+    go (afterStart i s) e = rw e (unknown-quiet m)
+
+-- after these calls it is asked anew, or no longer known
+abbrev pub forgets : Call → Bool
+forgets (Create t) = false
+forgets (Delay n) = true
+forgets Relinquish = false
+forgets End = false
+forgets (Take s) = false
+forgets (Give s) = false
+forgets Tick = true
+forgets (Timing k) = true
+
+-- the same, of the state alone: who sleeps until when, and timers that are as they were
+
 abbrev SleepFrom : List Condition → (until : ℕ) → Type 0
 SleepFrom cs until = (t n : ℕ) → getD cs t dormant ≡ asleep n → until ≤ n
 
-module _ (until : ℕ) where
+record Still (until : ℕ) (ts : Timers) (st : State) : Type 0 where
+  sleep : SleepFrom (st .conditions) until
+  kept : st .timers ≡ ts
+
+module _ (until : ℕ) (ts : Timers) where
   -- another condition of one thread, which is no sleep that ends before
   set-quiet : (cs : List Condition) (t : ℕ) (c : Condition) → ((n : ℕ) → c ≡ asleep n → until ≤ n) → SleepFrom cs until → SleepFrom (set cs t c) until
   set-quiet [] t c h q u n e = q u n e
@@ -62,54 +95,62 @@ module _ (until : ℕ) where
   set-quiet (d ∷ cs) (suc t) c h q zero n e = q zero n e
   set-quiet (d ∷ cs) (suc t) c h q (suc u) n e = set-quiet cs t c h (λ v k f. q (suc v) k f) u n e
 
-  ready-quiet : (ts : List ℕ) (cs : List Condition) → SleepFrom cs until → SleepFrom (allReady ts cs) until
-  ready-quiet [] cs q = q
-  ready-quiet (t ∷ ts) cs q = ready-quiet ts (set cs t ready) (set-quiet cs t ready (λ n e. absurd (omega (arith, ap tag e))) q)
+  ready-quiet : (cs : List Condition) (t : ℕ) → SleepFrom cs until → SleepFrom (set cs t ready) until
+  ready-quiet cs t q = set-quiet cs t ready (λ n e. absurd (omega (arith, ap tag e))) q
 
-  either-quiet : (b : Bool) (st st' : State) → SleepFrom (st .conditions) until → SleepFrom (st' .conditions) until → SleepFrom ((cond b st st') .conditions) until
-  either-quiet true st st' q r = q
-  either-quiet false st st' q r = r
+  either-still : (b : Bool) (st st' : State) → Still until ts st → Still until ts st' → Still until ts (cond b st st')
+  either-still true st st' q r = q
+  either-still false st st' q r = r
 
-  caller-quiet : (o : Option ℕ) (act : ℕ → State → State) (st : State) → SleepFrom (st .conditions) until → ((x : ℕ) → SleepFrom (act x st .conditions) until) → SleepFrom (byCaller o act st .conditions) until
-  caller-quiet none act st q r = q
-  caller-quiet (some x) act st q r = r x
+  caller-still : (o : Option ℕ) (act : ℕ → State → State) (st : State) → Still until ts st → ((x : ℕ) → Still until ts (act x st)) → Still until ts (byCaller o act st)
+  caller-still none act st q r = q
+  caller-still (some x) act st q r = r x
 
-  hand-quiet : (p : Plan) (o : Option ℕ) (st : State) → SleepFrom (st .conditions) until → SleepFrom (handOver p o st .conditions) until
-  hand-quiet p none st q = q
-  hand-quiet p (some w) st q = either-quiet (aboveAll p w (st .holds)) _ _ (ready-quiet (w ∷ []) (st .conditions) q) q
+  hand-still : (p : Plan) (o : Option ℕ) (st : State) → Still until ts st → Still until ts (handOver p o st)
+  hand-still p none st q = q
+  hand-still p (some w) st q =
+      either-still (aboveAll p w (st .holds)) _ _ (record { sleep = ready-quiet (st .conditions) w (q .sleep); kept = q .kept }) (record { sleep = q .sleep; kept = q .kept })
 
   -- only a Delay puts a thread to sleep
-  stays-quiet : (p : Plan) (st : State) (k : Call) → isDelay k ≡ false → SleepFrom (st .conditions) until → SleepFrom (perform p k st .conditions) until
-  unfolding create tick relinquish end take give
-  stays-quiet p st (Create t) d q = ready-quiet (t ∷ []) (st .conditions) q
-  stays-quiet p st (Delay n) d q = absurd (true≢false d)
-  stays-quiet p st Relinquish d q = caller-quiet (chosen p st) (relinquish p) st q (λ x. either-quiet (rivalled p x st) _ _ q q)
-  stays-quiet p st End d q = caller-quiet (chosen p st) end st q (λ x. set-quiet (st .conditions) x dormant (λ n e. absurd (omega (arith, ap tag e))) q)
-  stays-quiet p st (Take s) d q =
-      caller-quiet (chosen p st) (λ x. take p x s) st q
-      (λ x. either-quiet (aboveAll p x (heldByOthers x (st .holds))) _ _ q (set-quiet (st .conditions) x (waiting s) (λ n e. absurd (omega (arith, ap tag e))) q))
-  stays-quiet p st (Give s) d q = caller-quiet (chosen p st) (λ x. give p x s) st q (λ x. hand-quiet p (heir p st) _ q)
-  stays-quiet p st Tick d q = ready-quiet (sleepers (suc (st .tickNumber)) st) (st .conditions) q
+  stays-still : (p : Plan) (st : State) (k : Call) → forgets k ≡ false → Still until ts st → Still until ts (perform p k st)
+  unfolding create relinquish end take give
+  stays-still p st (Create t) d q = record { sleep = ready-quiet (st .conditions) t (q .sleep); kept = q .kept }
+  stays-still p st (Delay n) d q = absurd (true≢false d)
+  stays-still p st Relinquish d q = caller-still (chosen p st) (relinquish p) st q (λ x. either-still (rivalled p x st) _ _ (record { sleep = q .sleep; kept = q .kept }) q)
+  stays-still p st End d q = caller-still (chosen p st) end st q (λ x. record { sleep = set-quiet (st .conditions) x dormant (λ n e. absurd (omega (arith, ap tag e))) (q .sleep); kept = q .kept })
+  stays-still p st (Take s) d q =
+      caller-still (chosen p st) (λ x. take p x s) st q
+      (λ x. either-still (aboveAll p x (heldByOthers x (st .holds))) _ _ (record { sleep = q .sleep; kept = q .kept })
+      (record { sleep = set-quiet (st .conditions) x (waiting s) (λ n e. absurd (omega (arith, ap tag e))) (q .sleep); kept = q .kept }))
+  stays-still p st (Give s) d q = caller-still (chosen p st) (λ x. give p x s) st q (λ x. hand-still p (heir p st) _ (record { sleep = q .sleep; kept = q .kept }))
+  stays-still p st Tick d q = absurd (true≢false d)
+  stays-still p st (Timing k) d q = absurd (true≢false d)
 
--- the sleepers of a machine, said of its conditions, and back
-module _ (m : Machine) {until : ℕ} where
-  sleeps-from : Quiet m until → SleepFrom (idle m .conditions) until
-  sleeps-from q t n e = go (split (ltb t (m .plan .threads)))
+-- a machine, said of its state, and back
+module _ {until : ℕ} where
+  still-by : (m : Machine) → Quiet m until → Still until (idle m .timers) (idle m)
+  still-by m q = record { sleep = λ t n e. go t n e (split (ltb t (m .plan .threads))); kept = refl }
     where
-      go : T (ltb t (m .plan .threads)) ⊎ T (not (ltb t (m .plan .threads))) → until ≤ n
-      go (inl b) = let h = ltb→lt t (m .plan .threads) b in q t n h (sym (condition-at (m .plan .threads) (m .slots) (m .wakes) t h) ∙ e)
-      go (inr b) = absurd (omega (arith, ap tag (sym (unlisted (conditionIn (m .slots) (m .wakes)) (m .plan .threads) t dormant (nltb→le t (m .plan .threads) b)) ∙ e)))
+      go : (t n : ℕ) → condition (idle m) t ≡ asleep n → T (ltb t (m .plan .threads)) ⊎ T (not (ltb t (m .plan .threads))) → until ≤ n
+      go t n e (inl b) = let h = ltb→lt t (m .plan .threads) b in q .sleepers' t n h (sym (condition-at (m .plan .threads) (m .slots) (m .wakes) t h) ∙ e)
+      go t n e (inr b) = absurd (omega (arith, ap tag (sym (unlisted (conditionIn (m .slots) (m .wakes)) (m .plan .threads) t dormant (nltb→le t (m .plan .threads) b)) ∙ e)))
 
-  quiet-by : {cs : List Condition} → idle m .conditions ≡ cs → SleepFrom cs until → Quiet m until
-  quiet-by e q t n h k = q t n (ap (λ (l : List Condition). getD l t dormant) (sym e) ∙ condition-at (m .plan .threads) (m .slots) (m .wakes) t h ∙ k)
+  quiet-by : (m left : Machine) {st : State} → idle left .conditions ≡ st .conditions → idle left .timers ≡ st .timers → Quiet m until → Still until (idle m .timers) st → Quiet left until
+  quiet-by m left e f q s =
+      let same : idle left .timers ≡ idle m .timers = f ∙ s .kept in
+      record {
+        sleepers' = λ t n h k. s .sleep t n (ap (λ (l : List Condition). getD l t dormant) (sym e) ∙ condition-at (left .plan .threads) (left .slots) (left .wakes) t h ∙ k);
+        timers' = λ i t k. q .timers' i t (sym (ap (λ (ts : Timers). slot ts i) same) ∙ k);
+        rests = λ h. ap (λ (ts : Timers). stage (ts .arming)) same ∙ q .rests h;
+      }
 
--- so every call but a Delay keeps the tick number before which nobody wakes
-pub call-quiet : {m left : Machine} {rs : Reports} {rule until : ℕ} {k : Call} → Makes left rs rule m k → isDelay k ≡ false → Quiet m until → Quiet left until
+-- so a call that does not forget it keeps the tick number before which nothing happens
+pub call-quiet : {m left : Machine} {rs : Reports} {rule until : ℕ} {k : Call} → Makes left rs rule m k → forgets k ≡ false → Quiet m until → Quiet left until
 call-quiet {m} {left} {rs} {rule} {until} {k} makes d q = go (equal? rule 0)
   where
     go : (rule ≡ 0) ⊎ (rule ≢ 0) → Quiet left until
-    go (inl z) = quiet-by left (ap (λ (st : State). st .conditions) (makes .made z)) (stays-quiet until (planOf m) (idle m) k d (sleeps-from m q))
-    go (inr z) = quiet-by left (ap (λ (st : State). st .conditions) (makes .kept z)) (sleeps-from m q)
+    go (inl z) = quiet-by m left (ap (λ (st : State). st .conditions) (makes .made z)) (ap (λ (st : State). st .timers) (makes .made z)) q (stays-still until (idle m .timers) (planOf m) (idle m) k d (still-by m q))
+    go (inr z) = quiet-by m left (ap (λ (st : State). st .conditions) (makes .kept z)) (ap (λ (st : State). st .timers) (makes .kept z)) q (still-by m q)
 
 no-member : (l : List ℕ) → ((t : ℕ) → Mem t l → ⊥) → l ≡ []
 no-member [] f = refl
@@ -121,22 +162,43 @@ sleeps n ready t = absurd t
 sleeps n (asleep k) t = ap asleep (eqb→eq k n t)
 sleeps n (waiting s) t = absurd t
 
-module _ (m : Machine) (until : ℕ) (q : Quiet m until) (h : m .tick .0 + 1 < until) where
-  nobody-wakes : sleepers (suc (m .tick .0)) (idle m) ≡ []
-  nobody-wakes = no-member (sleepers n (idle m)) none
-    where
-      n : ℕ
-      n = suc (m .tick .0)
+-- timers of which none expires at a tick number
+module _ (n : ℕ) where
+  late-than : {until : ℕ} → n < until → (o : Option Timer) → ((t : Timer) → o ≡ some t → until ≤ t .expiry) → T (expiresAt n o) → ⊥
+  late-than h none q t = t
+  late-than h (some u) q t = omega (arith, h, q u refl, eqb→eq (u .expiry) n t)
 
-      none : (t : ℕ) → Mem t (sleepers n (idle m)) → ⊥
-      none t i =
+  unmoved : {until : ℕ} → n < until → (os : List (Option Timer)) → ((i : ℕ) (t : Timer) → getD os i none ≡ some t → until ≤ t .expiry) → map (movedOn n) os ≡ os
+  unmoved h [] q = refl
+  unmoved h (none ∷ os) q = ap (λ l. none ∷ l) (unmoved h os (λ i. q (suc i)))
+  unmoved h (some t ∷ os) q =
+      rw (ne-eqb (t .expiry) n (λ e. omega (arith, h, q zero t refl, e))) (ap (λ l. some t ∷ l) (unmoved h os (λ i. q (suc i))))
+
+module _ (m : Machine) (until : ℕ) (q : Quiet m until) (h : m .tick .0 + 1 < until) where
+  abbrev n : ℕ
+  n = suc (m .tick .0)
+
+  nobody-wakes : sleepers n (idle m) ≡ []
+  nobody-wakes = no-member (sleepers n (idle m)) none-of
+    where
+      none-of : (t : ℕ) → Mem t (sleepers n (idle m)) → ⊥
+      none-of t i =
           let r = filtered (λ u. sleepsUntil n (condition (idle m) u)) (upTo (length (idle m .conditions))) i in
           let l : t < m .plan .threads = omega (arith, upTo-at (length (idle m .conditions)) (r .0), length-listed (conditionIn (m .slots) (m .wakes)) (m .plan .threads)) in
-          omega (arith, h, q t n l (sym (condition-at (m .plan .threads) (m .slots) (m .wakes) t l) ∙ sleeps n (condition (idle m) t) (r .1)))
+          omega (arith, h, q .sleepers' t n l (sym (condition-at (m .plan .threads) (m .slots) (m .wakes) t l) ∙ sleeps n (condition (idle m) t) (r .1)))
+
+  none-expires : expired n (idle m .timers) ≡ []
+  none-expires =
+      no-member (expired n (idle m .timers))
+      (λ i k. let r = filtered (λ j. expiresAt n (slot (idle m .timers) j)) (upTo timerCount) k in late-than n (omega (arith, h)) (slot (idle m .timers) i) (q .timers' i) (r .1))
+
+  as-they-were : moveOn n (idle m .timers) ≡ idle m .timers
+  as-they-were = ap (λ l. record { slots = l; arming = idle m .timers .arming }) (unmoved n (omega (arith, h)) (idle m .timers .slots) (q .timers'))
 
   pub quiet-tick : tick (idle m) ≡ setTickNumber (m .tick .0 + 1) (idle m)
   unfolding tick
   quiet-tick =
-      let n : suc (m .tick .0) ≡ m .tick .0 + 1 = omega arith in
-      ap (λ l. idle m ▷ setTickNumber (suc (m .tick .0)) ▷ arrive l ▷ owe (map Ready l)) nobody-wakes
-      ∙ alike n refl (append-nil (idle m .queue)) refl refl refl refl
+      let e : n ≡ m .tick .0 + 1 = omega arith in
+      ap (λ l. idle m ▷ setTickNumber n ▷ setTimers (moveOn n (idle m .timers)) ▷ arrive l ▷ owe (map Expire (expired n (idle m .timers)) ++ map Ready l)) nobody-wakes
+      ∙ ap (λ l. idle m ▷ setTickNumber n ▷ setTimers (moveOn n (idle m .timers)) ▷ arrive [] ▷ owe (map Expire l ++ [])) none-expires
+      ∙ alike e refl (append-nil (idle m .queue)) refl refl refl refl as-they-were

@@ -9,6 +9,7 @@ use Rattle.machine.specs.declared.Machine.{Machine}
 use Rattle.machine.specs.declared.reports.Reports.{Reports}
 use Rattle.machine.specs.declared.reporting.Reporting.{Reporting}
 use Rattle.machine.specs.declared.state.State.{State}
+use Rattle.machine.specs.Lists.{reportRoom}
 use Rattle.machine.proofs.Machine.{the-type as machine-type}
 use Rattle.machine.proofs.Machine.Laws.{the-laws as machine-laws}
 use Rattle.machine.proofs.reports.Reports.{the-type as reports-type}
@@ -18,16 +19,16 @@ use Rattle.machine.proofs.reporting.Reporting.Laws.{the-laws as reporti
 use Rattle.machine.proofs.state.State.{the-type as state-type}
 use Rattle.machine.proofs.state.State.Laws.{the-laws as state-laws}
 
-pub reports-size : (r : Reports) → Is (row reports-type) r (val reports-type reports-laws r ∷ []) → length (r .items) ≡ 17
+pub reports-size : (r : Reports) → Is (row reports-type) r (val reports-type reports-laws r ∷ []) → length (r .items) ≡ reportRoom
 reports-size r g = sym (length-map (r .items) _) ∙ (owed reports-type reports-laws r _ g) .0 .1 .0 .1
 
 pub wakes-size : (m : Machine) → Is (row machine-type) m (val machine-type machine-laws m ∷ []) → length (m .wakes) ≡ 16
 wakes-size m g = sym (length-map (m .wakes) _) ∙ (owed machine-type machine-laws m _ g) .1 .1 .1 .0 .1 .0 .1
 
-pub due-size : (s : State) → Is (row state-type) s (val state-type state-laws s ∷ []) → length (s .due .items) ≡ 17
+pub due-size : (s : State) → Is (row state-type) s (val state-type state-laws s ∷ []) → length (s .due .items) ≡ reportRoom
 due-size s g = reports-size (s .due) ((owed state-type state-laws s _ g) .1 .0)
 
-pub reporting-size : (c : Reporting) → Is (row reporting-type) c (val reporting-type reporting-laws c ∷ []) → length (c .reports) ≡ 17
+pub reporting-size : (c : Reporting) → Is (row reporting-type) c (val reporting-type reporting-laws c ∷ []) → length (c .reports) ≡ reportRoom
 reporting-size c g = sym (length-map (c .reports) _) ∙ (owed reporting-type reporting-laws c _ g) .1 .0 .1 .0 .1
 
 -- and of the machine in it

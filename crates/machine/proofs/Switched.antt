@@ -3,6 +3,7 @@ use mathlib.Core.Path.{_≡_, refl, ap, sym, _∙_}
 use mathlib.Core.Logic.{_⊎_, inl, inr}
 use mathlib.Core.Bool.{cond, not}
 use mathlib.Core.List.{List, [], _∷_, _++_}
+use mathlib.Core.Option.{Option, none, some}
 use Prim.Native.Nat.{ℕ, _<_}
 use native.Mathlib.Omega.{arith}
 use lib.Dec.{T}
@@ -18,7 +19,7 @@ use Rattle.machine.specs.declared.reports.Reports.{Reports}
 use Rattle.machine.specs.declared.Machine.{Machine}
 use Rattle.lists.specs.Lists.{numbered}
 use Rattle.lists.proofs.Laws.{numbered-threadOf, threadOf-numbered}
-use Rattle.machine.specs.Lists.{threadOf, owed}
+use Rattle.machine.specs.Lists.{threadOf, reportRoom, owed}
 use Rattle.machine.specs.View.{planOf, viewed, idle}
 use Rattle.machine.specs.Contracts.{Chooses}
 
@@ -44,7 +45,7 @@ module _ (p : Plan) (st : State) where
 -- what a call left before its Switch: the chosen thread can be asked for, there is room for the Switch, and none is due yet
 pub record Settles (left : Machine) (rs : Reports) (ceilings : List ℕ) : Type 0 where
   pub chooses : Chooses left ceilings
-  pub room : rs .count < 17
+  pub room : rs .count < reportRoom
   pub last : lastReported (viewed left (owed rs)) ≡ threadOf (left .reported)
 
 -- after a call, where this is the number of the chosen thread
@@ -52,13 +53,19 @@ module _ {m : Machine} {rs : Reports} {ceilings : List ℕ} (settles : Settles m
   abbrev left : State
   left = viewed m (owed rs)
 
+  below : (t : ℕ) → chosen (planOf m) (idle m) ≡ some t → t < 16
+  below t e = let l = settles .chooses .listed in omega (arith, l .known t (chosen-is (planOf m) (idle m) t e .0), l .threads')
+
   named : threadOf who ≡ chosen (planOf m) left
-  named =
-      let p = planOf m in
-      let o = chosen p (idle m) in
-      ap threadOf is-chosen
-      ∙ threadOf-numbered o (λ t e. omega (arith, settles .chooses .listed .known t (chosen-is p (idle m) t e .0)))
-      ∙ sym (chosen-due p m (owed rs))
+  named = ap threadOf is-chosen ∙ threadOf-numbered (chosen (planOf m) (idle m)) (λ t e. omega (arith, below t e)) ∙ sym (chosen-due (planOf m) m (owed rs))
+
+  -- a thread's number, or nobody's
+  pub one-byte : who < 256
+  one-byte = omega (arith, is-chosen, go (chosen (planOf m) (idle m)) refl)
+    where
+      go : (o : Option ℕ) → chosen (planOf m) (idle m) ≡ o → numbered o < 256
+      go none e = omega arith
+      go (some t) e = omega (arith, below t e)
 
   -- the number is the one last reported
   pub unswitched : who ≡ m .reported → left ≡ switch (planOf m) left

@@ -22,6 +22,10 @@ numbers p st (call records.End) = tt
 numbers p st (call (records.Take n)) = tt
 numbers p st (call (records.Give n)) = tt
 numbers p st (call records.Tick) = tt
+numbers p st (call (records.Timing (records.Arm i))) = tt
+numbers p st (call (records.Timing (records.Start n))) = tt
+numbers p st (call (records.Timing (records.Period n))) = tt
+numbers p st (call (records.Timing (records.Cancel i))) = tt
 numbers p st (records.report r) = tt
 
 pub none-broken : (p : plan.Plan) (st : state.State) (r : records.Record) → ruleNumber (broken p st r) ≡ 0 → broken p st r ≡ none

@@ -1,4 +1,4 @@
--- The loop of a tick: after i turns the sleepers below i whose tick number this is are ready, in the queue and reported.
+-- The loop of a tick: after i turns the sleepers below i whose tick number this is are ready, in the queue and reported behind the timers that expire.
 use mathlib.Core.Path.{_≡_, refl, ap, sym, _∙_}
 use mathlib.Core.Logic.{_⊎_, inl, inr}
 use mathlib.Core.Bool.{Bool, true, false, not}
@@ -9,7 +9,8 @@ use lib.Dec.{T}
 use lib.ListN.{length, set, length-append, length-map}
 use Rattle.model.specs.Searches.{filter, upTo}
 use Rattle.model.specs.State.{Condition, ready, condition, allReady}
-use Rattle.model.specs.Records.{Ready}
+use Rattle.model.specs.Records.{timerCount, Ready, Expire}
+use Rattle.model.specs.Timers.{slot, expiresAt, expired}
 use Rattle.model.specs.Calls.{sleepsUntil, sleepers}
 use Rattle.model.proofs.Tests.{split, is-true, is-false}
 use Rattle.model.proofs.Loops.{length-listed}
@@ -18,11 +19,11 @@ use Rattle.lists.specs.declared.queue.Queue.{Queue}
 use Rattle.machine.specs.declared.reports.Reports.{Reports}
 use Rattle.machine.specs.declared.Machine.{Machine}
 use Rattle.lists.specs.Lists.{queued}
-use Rattle.machine.specs.Lists.{owed}
+use Rattle.machine.specs.Lists.{reportRoom, owed}
 use Rattle.machine.specs.View.{conditionIn, conditionsOf, idle}
 use Rattle.machine.specs.Contracts.{placed}
 use Rattle.machine.proofs.Facts.{Facts}
-use Rattle.machine.proofs.Arrays.{upTo-more, map-append}
+use Rattle.model.proofs.Loops.{upTo-more, map-append, filter-few}
 use Rattle.lists.proofs.Laws.{filter-kept, filter-dropped, length-queued}
 use Rattle.machine.proofs.Views.{condition-at, placed-seen}
 use Rattle.machine.proofs.Room.{woken-room}
@@ -54,12 +55,16 @@ woken m n i = filter (λ t. sleepsUntil n (condition (idle m) t)) (upTo i)
 pub record Woken (m : Machine) (number : ℕ) (slots : Slots) (queue : Queue) (rs : Reports) (i : ℕ) : Type 0 where
   pub conditions : conditionsOf (m .plan .threads) slots (m .wakes) ≡ allReady (woken m number i) (idle m .conditions)
   pub queue' : queued queue ≡ queued (m .queue) ++ woken m number i
-  pub reports : owed rs ≡ map Ready (woken m number i)
+  pub reports : owed rs ≡ map Expire (expired number (idle m .timers)) ++ map Ready (woken m number i)
 
 module _ (m : Machine) (n : ℕ) where
   -- before the first turn nobody is woken
-  pub woken-begin : (rs : Reports) → owed rs ≡ [] → Woken m n (m .slots) (m .queue) rs 0
-  woken-begin rs e = record { conditions = refl; queue' = sym (append-nil (queued (m .queue))); reports = e }
+  pub woken-begin : (rs : Reports) → owed rs ≡ map Expire (expired n (idle m .timers)) → Woken m n (m .slots) (m .queue) rs 0
+  woken-begin rs e = record { conditions = refl; queue' = sym (append-nil (queued (m .queue))); reports = e ∙ sym (append-nil (map Expire (expired n (idle m .timers)))) }
+
+  -- at most eight timers expire
+  few-expired : length (map Expire (expired n (idle m .timers))) ≤ timerCount
+  few-expired = omega (arith, length-map (expired n (idle m .timers)) Expire, filter-few (λ i. expiresAt n (slot (idle m .timers) i)) (upTo timerCount))
 
   counted : length (idle m .conditions) ≡ m .plan .threads
   counted = length-listed (conditionIn (m .slots) (m .wakes)) (m .plan .threads)
@@ -72,7 +77,7 @@ module _ (m : Machine) (n : ℕ) where
         record {
           conditions = w .conditions ∙ ap (λ k. allReady (woken m n k) (idle m .conditions)) z;
           queue' = w .queue' ∙ ap (λ k. queued (m .queue) ++ woken m n k) z;
-          reports = w .reports ∙ ap (λ k. map Ready (woken m n k)) z;
+          reports = w .reports ∙ ap (λ k. map Expire (expired n (idle m .timers)) ++ map Ready (woken m n k)) z;
         }
 
     module _ (h : i < m .plan .threads) where
@@ -84,7 +89,7 @@ module _ (m : Machine) (n : ℕ) where
       passes e = record {
         conditions = w .conditions ∙ ap (λ l. allReady l (idle m .conditions)) z;
         queue' = w .queue' ∙ ap (λ l. queued (m .queue) ++ l) z;
-        reports = w .reports ∙ ap (map Ready) z;
+        reports = w .reports ∙ ap (λ l. map Expire (expired n (idle m .timers)) ++ map Ready l) z;
       }
         where
           z : woken m n i ≡ woken m n (i + 1)
@@ -95,14 +100,14 @@ module _ (m : Machine) (n : ℕ) where
         one-more = ap (filter (λ t. sleepsUntil n (condition (idle m) t))) (upTo-more i) ∙ filter-kept (λ t. sleepsUntil n (condition (idle m) t)) (upTo i) i (sleeps-at e)
 
         -- the sleepers from i on have room, and so has this one
-        pub wakes-room : Facts m → (queue .count < 16) × (rs .count < 17)
+        pub wakes-room : Facts m → (queue .count < 16) × (rs .count < reportRoom)
         wakes-room f =
             let z : (i + 1) + (m .plan .threads - (i + 1)) ≡ length (idle m .conditions) = omega (arith, counted) in
             let fewer : length (woken m n (i + 1)) ≤ length (sleepers n (idle m)) = rw z at (filter-grows (λ t. sleepsUntil n (condition (idle m) t)) (i + 1) (m .plan .threads - (i + 1))) in
             let listed = ap length (w .queue') ∙ length-append (queued (m .queue)) (woken m n i) in
-            let reported = owed-count rs (w .reports) ∙ length-map (woken m n i) Ready in
+            let reported = owed-count rs (w .reports) ∙ length-append (map Expire (expired n (idle m .timers))) (map Ready (woken m n i)) in
             let longer = ap length one-more ∙ length-append (woken m n i) (i ∷ []) in
-            (omega (arith, length-queued queue, woken-room f n), omega (arith, woken-room f n))
+            (omega (arith, length-queued queue, woken-room f n), omega (arith, length-map (woken m n i) Ready, few-expired, woken-room f n))
 
         -- the slot, the queue and the reports with this one
         pub wakes : {slots' : Slots} {queue' : Queue} {rs' : Reports}
@@ -113,5 +118,7 @@ module _ (m : Machine) (n : ℕ) where
         wakes s q r = record {
           conditions = ap (λ (k : Slots). conditionsOf (m .plan .threads) k (m .wakes)) s ∙ placed-seen (m .plan .threads) slots (m .wakes) i 1 (omega arith) ∙ ap (λ cs. set cs i ready) (w .conditions) ∙ sym (ap (λ l. allReady l (idle m .conditions)) one-more ∙ ready-more (woken m n i) i (idle m .conditions));
           queue' = q ∙ ap (λ l. l ++ (i ∷ [])) (w .queue') ∙ append-assoc (queued (m .queue)) (woken m n i) (i ∷ []) ∙ sym (ap (λ l. queued (m .queue) ++ l) one-more);
-          reports = r ∙ ap (λ l. l ++ (Ready i ∷ [])) (w .reports) ∙ sym (ap (map Ready) one-more ∙ map-append Ready (woken m n i) (i ∷ []));
+          reports =
+              r ∙ ap (λ l. l ++ (Ready i ∷ [])) (w .reports) ∙ append-assoc (map Expire (expired n (idle m .timers))) (map Ready (woken m n i)) (Ready i ∷ [])
+              ∙ sym (ap (λ l. map Expire (expired n (idle m .timers)) ++ l) (ap (map Ready) one-more ∙ map-append Ready (woken m n i) (i ∷ [])));
         }

@@ -1,32 +1,52 @@
 -- What a call and a report ask, and that they answer what one step of the model does.
 use mathlib.Core.Path.{_≡_}
 use mathlib.Core.Logic.{_⊎_}
-use mathlib.Core.Bool.{cond}
-use mathlib.Core.List.{List}
-use Prim.Native.Nat.{ℕ, _+_, _≤_, _<_}
+use mathlib.Core.Bool.{Bool, cond}
+use mathlib.Core.List.{List, map}
+use mathlib.Core.Option.{some}
+use Prim.Native.Nat.{ℕ, _+_, _%_, _≤_, _<_}
 use lib.Dec.{T, eqb}
+use Rattle.model.specs.Searches.{upTo}
+use Rattle.model.specs.Plan as plan
 use Rattle.model.specs.Records as records
 use Rattle.model.specs.State.{asleep}
+use Rattle.model.specs.Timers.{Timer, slot}
+use Rattle.model.specs.Rules.{stage, callPlace}
 use Rattle.model.specs.Priorities.{chosen}
 use Rattle.model.specs.Runs.{moved, broke, step}
 use Rattle.model.specs.Formed.{formed, lastTick}
 use Rattle.lists.specs.Lists.{numbered}
+use Rattle.clock.specs.declared.time.Tick.{Tick}
+use Rattle.clock.specs.declared.timers.Timers.{Timers}
+use Rattle.clock.specs.View as timing
+use Rattle.clock.specs.Contracts.{kindPlace}
+use Rattle.machine.specs.declared.slots.Slots.{Slots}
 use Rattle.machine.specs.declared.Machine.{Machine}
 use Rattle.machine.specs.declared.reporting.Reporting.{Reporting}
 use Rattle.machine.specs.declared.state.State.{State}
-use Rattle.machine.specs.View.{conditionIn, conditionsOf, planOf, view, reportAt, shown}
+use Rattle.machine.specs.Lists.{reportRoom}
+use Rattle.machine.specs.View.{conditionIn, planOf, view, reportAt, shown}
 use Rattle.machine.specs.Rules.{dueRule}
-use Rattle.machine.specs.Contracts.{Ceilings, soonest}
+use Rattle.machine.specs.Contracts.{Ceilings, nextEventOf}
 
 -- the Switch has a place behind the reports of the array, and nothing else stands apart from it
 pub record Apart (c : Reporting) : Type 0 where
-  pub apart : (c .due ≡ c .count) ⊎ ((c .due ≡ c .count + 1) × (c .count < 17))
+  pub apart : (c .due ≡ c .count) ⊎ ((c .due ≡ c .count + 1) × (c .count < reportRoom))
 
--- what is carried beside the machine is what it should be: the chosen thread, the place of the Switch, the tick number before which nobody wakes
+-- nothing happens before this tick number: nobody wakes and no timer expires; inside an arming it is 0, since every Tick there breaks a rule
+pub record QuietUntil (until threads : ℕ) (slots : Slots) (wakes : List Tick) (timers : Timers) : Type 0 where
+  pub sleepers' : (t n : ℕ) → t < threads → conditionIn slots wakes t ≡ asleep n → until ≤ n
+  pub timers' : (i : ℕ) (t : Timer) → slot (timing.view timers) i ≡ some t → until ≤ t .expiry
+  pub rests : 0 < until → stage (timing.view timers .arming) ≡ 0
+
+abbrev pub Quiet : Machine → (until : ℕ) → Type 0
+Quiet m until = QuietUntil until (m .plan .threads) (m .slots) (m .wakes) (m .timers)
+
+-- what is carried beside the machine is what it should be: the chosen thread, the place of the Switch, the tick number before which nothing happens
 pub record Stands (c : Reporting) : Type 0 where
   pub chosen' : c .chosen ≡ numbered (chosen (planOf (c .machine)) (shown c))
   pub apart' : Apart c
-  pub quiet' : (t n : ℕ) → t < c .machine .plan .threads → conditionIn (c .machine .slots) (c .machine .wakes) t ≡ asleep n → c .quiet .0 ≤ n
+  pub quiet' : Quiet (c .machine) (c .quiet .0)
 
 -- What a record asks: a well-formed state (the answer is not 12) and what is carried beside it, the ceilings of its plan, an operand that its
 -- kind allows, and for a Tick room for the tick number to grow (the answer is not 13).
@@ -37,10 +57,15 @@ pub record Asks (c : Reporting) (ceilings : List ℕ) (r : records.Record) : Typ
   pub allowed' : T (records.allowed (planOf (c .machine)) r)
   pub tick' : r ≡ records.call records.Tick → c .machine .tick .0 < lastTick
 
--- a call, with nothing due
+-- a call with nothing due, where the arming has come to its place
 pub record Calls (c : Reporting) (ceilings : List ℕ) (k : records.Call) : Type 0 where
   pub asks : Asks c ceilings (records.call k)
   pub undue : c .due ≤ c .given
+  pub ordered : stage (timing.view (c .machine .timers) .arming) ≡ callPlace k
+
+-- a call that sets timers moves no thread, so the ceilings of its plan are asked for, and none need be passed
+abbrev pub Sets : Reporting → records.TimerCall → Type 0
+Sets c k = Calls c (map (plan.ceiling (planOf (c .machine))) (upTo 16)) (records.Timing k)
 
 -- What is answered of a record: what the model's step answers, the state after it with all its reports due, or the broken rule, which leaves
 -- the state as it came.
@@ -50,7 +75,8 @@ pub record Answers (after c : Reporting) (r : records.Record) : Type 0 where
   pub kept : (after .rule ≡ 0 → ⊥) → shown after ≡ shown c
   pub stands' : Stands after
 
--- the tick number before which nobody wakes, after a call: asked anew by a Tick, no longer known after a Delay, and kept by every other call
+-- the tick number before which nothing happens, after a call: asked anew by a Tick, no longer known after a Delay and where timers are set, and kept
+-- by every other call
 abbrev pub quietAfter : records.Call → (kept : ℕ) → Machine → ℕ
 quietAfter (records.Create t) kept m = kept
 quietAfter (records.Delay n) kept m = 0
@@ -58,17 +84,22 @@ quietAfter records.Relinquish kept m = kept
 quietAfter records.End kept m = kept
 quietAfter (records.Take s) kept m = kept
 quietAfter (records.Give s) kept m = kept
-quietAfter records.Tick kept m = soonest (conditionsOf (m .plan .threads) (m .slots) (m .wakes))
+quietAfter records.Tick kept m = nextEventOf m
+quietAfter (records.Timing k) kept m = 0
 
 -- what a call answers
 pub record Called (after c : Reporting) (k : records.Call) : Type 0 where
   pub answers : Answers after c (records.call k)
   pub quiet' : after .quiet .0 ≡ quietAfter k (c .quiet .0) (after .machine)
 
--- a well-formed state with something due
-pub record Hearing (c : Reporting) : Type 0 where
+-- 31: a record of this kind stands where the arming has come to
+abbrev pub inPlace : Machine → (kind : ℕ) → Bool
+inPlace m kind = eqb (stage (timing.view (m .timers) .arming)) (kindPlace kind)
+
+-- a well-formed state with something due, or a record outside its place
+pub record Hearing (c : Reporting) (kind : ℕ) : Type 0 where
   pub formed' : T (formed (planOf (c .machine)) (shown c))
-  pub due' : c .given < c .due
+  pub due' : T (inPlace (c .machine) kind) → c .given < c .due
 
 -- another rule, and nothing else changed
 abbrev pub barred : Reporting → (rule : ℕ) → Reporting
@@ -83,7 +114,7 @@ abbrev pub told : Reporting → (reported : ℕ) → Reporting
 told c x =
     let m = c .machine in
     record {
-      machine = record { plan = m .plan; tick = m .tick; slots = m .slots; wakes = m .wakes; queue = m .queue; holds = m .holds; waits = m .waits; reported = x };
+      machine = record { plan = m .plan; tick = m .tick; slots = m .slots; wakes = m .wakes; queue = m .queue; holds = m .holds; waits = m .waits; reported = x; timers = m .timers };
       reports = c .reports;
       count = c .count;
       due = c .due;
@@ -93,11 +124,10 @@ told c x =
       rule = 0;
     }
 
--- a record where a report is due, by its kind and the thread that it names: the first due is given, a Switch given names the thread reported, or
--- a rule is broken
-pub record Hears (r c : Reporting) (kind who : ℕ) : Type 0 where
-  pub rule' : r .rule ≡ dueRule (reportAt c (c .given)) kind who
-  pub given' : r .rule ≡ 0 → r ≡ told c (cond (eqb kind 17) who (c .machine .reported))
+-- a record that is heard, by its kind and operand: the first due is given, a Switch given names the thread reported, or a rule is broken
+pub record Hears (r c : Reporting) (kind operand : ℕ) : Type 0 where
+  pub rule' : r .rule ≡ cond (inPlace (c .machine) kind) (dueRule (reportAt c (c .given)) kind operand) 31
+  pub given' : r .rule ≡ 0 → r ≡ told c (cond (eqb kind 17) (operand % 256) (c .machine .reported))
   pub barred' : (r .rule ≡ 0 → ⊥) → r ≡ barred c (r .rule)
 
 -- as it is lent

@@ -9,6 +9,7 @@ use Rattle.model.specs.Searches.{upTo}
 use Rattle.model.specs.Plan as plan
 use Rattle.model.specs.State as state
 use Rattle.model.specs.State.{Condition, dormant, ready, asleep, waiting}
+use Rattle.model.specs.Timers.{isComplete}
 use Rattle.model.specs.Runs.{deliver}
 use Rattle.model.specs.Formed.{formed, lastWake}
 use Rattle.plan.specs.View as plans
@@ -18,8 +19,11 @@ use Rattle.lists.specs.declared.holds.Holds.{Holds}
 use Rattle.lists.specs.Words.{withNibble}
 use Rattle.lists.specs.Lists.{queued}
 use Rattle.lists.specs.Choice.{Counts}
+use Rattle.clock.specs.declared.time.Tick.{Tick}
+use Rattle.clock.specs.declared.timers.Timers.{Timers}
+use Rattle.clock.specs.View as timing
+use Rattle.clock.specs.Contracts.{soonest as soonestExpiry}
 use Rattle.machine.specs.declared.Machine.{Machine}
-use Rattle.machine.specs.declared.time.Tick.{Tick}
 use Rattle.machine.specs.declared.slots.Slots.{Slots}
 use Rattle.machine.specs.declared.reports.Report.{Report}
 use Rattle.machine.specs.declared.reports.Reports.{Reports}
@@ -48,6 +52,13 @@ abbrev pub soonest : List Condition → ℕ
 soonest [] = lastWake
 soonest (c ∷ cs) = min (wakesAt c) (soonest cs)
 
+-- The tick number before which nobody wakes and no timer expires. Inside an arming every Tick breaks a rule, so it is 0 there.
+abbrev pub nextEvent : (threads : ℕ) → Slots → (wakes : List Tick) → Timers → ℕ
+nextEvent threads slots wakes timers = cond (isComplete (timing.view timers .arming)) (min (soonest (conditionsOf threads slots wakes)) (soonestExpiry (timing.view timers .slots))) 0
+
+abbrev pub nextEventOf : Machine → ℕ
+nextEventOf m = nextEvent (m .plan .threads) (m .slots) (m .wakes) (m .timers)
+
 -- the lists are within their words, and those in the queue and in the waits are threads
 pub record Listed (threads : ℕ) (queue : Queue) (holds : Holds) (waits : Queue) : Type 0 where
   pub threads' : threads ≤ 16
@@ -75,10 +86,10 @@ pub record Fresh (r : State) (p : Plan) : Type 0 where
   pub plan' : r .machine .plan ≡ p
   pub seen : view r ≡ state.start (plans.view p)
 
--- a report of one of document 01's kinds
+-- a report of one of the papers' kinds
 pub record IsReport (r : Report) : Type 0 where
   pub least : 16 ≤ r .kind
-  pub most : r .kind ≤ 20
+  pub most : r .kind ≤ 22
 
 -- a well-formed state with something due
 pub record Owes (s : State) : Type 0 where
@@ -113,7 +124,7 @@ owing m rs rule x quiet =
       rule = rule;
     }
 
--- with the tick number before which nobody wakes
+-- with the tick number before which nothing happens
 abbrev pub quieted : Reporting → Reporting
 quieted c =
     let m = c .machine in
@@ -124,16 +135,16 @@ quieted c =
       due = c .due;
       given = c .given;
       chosen = c .chosen;
-      quiet = record { 0 = soonest (conditionsOf (m .plan .threads) (m .slots) (m .wakes)) };
+      quiet = record { 0 = nextEventOf m };
       rule = c .rule;
     }
 
--- a Tick that wakes nobody: the tick number grows by one, and nothing else changes
+-- a Tick at which nothing happens: the tick number grows by one, and nothing else changes
 abbrev pub passed : Reporting → Reporting
 passed c =
     let m = c .machine in
     record {
-      machine = record { plan = m .plan; tick = record { 0 = m .tick .0 + 1 }; slots = m .slots; wakes = m .wakes; queue = m .queue; holds = m .holds; waits = m .waits; reported = m .reported };
+      machine = record { plan = m .plan; tick = record { 0 = m .tick .0 + 1 }; slots = m .slots; wakes = m .wakes; queue = m .queue; holds = m .holds; waits = m .waits; reported = m .reported; timers = m .timers };
       reports = c .reports;
       count = c .count;
       due = c .due;

@@ -5,21 +5,31 @@ use Prim.Native.Nat.{ℕ}
 use lib.Dec.{eqb}
 use lib.ListN.{getD}
 use Rattle.model.specs.Searches.{upTo}
-use Rattle.model.specs.Records.{Ready, Switch, Won, Lost, Yield}
+use Rattle.model.specs.Records.{Ready, Switch, Won, Lost, Yield, Expire, Late, nobody, operandNumber, operandThread}
 use Rattle.model.specs.Records as records
 use Rattle.machine.specs.declared.reports.Report.{Report}
 use Rattle.machine.specs.declared.reports.Reports.{Reports}
 pub use Rattle.lists.specs.Lists.{numbered, threadOf}
 
--- kinds by document 01's numbers; any other number stands for the report of a thread that no plan has
+-- room for the reports of sixteen threads and eight timers, and a Switch
+abbrev pub reportRoom : ℕ
+reportRoom = 25
+
+-- kinds by the papers' numbers; any other number stands for the report of a thread that no plan has
 abbrev pub reportOf : Report → records.Report
 reportOf r =
-    cond (eqb (r .kind) 16) (Ready (r .who))
-    (cond (eqb (r .kind) 17) (Switch (threadOf (r .who)))
-    (cond (eqb (r .kind) 18) (Won (r .who)) (cond (eqb (r .kind) 19) (Lost (r .who)) (cond (eqb (r .kind) 20) (Yield (r .who)) (Yield 255)))))
+    cond (eqb (r .kind) 16) (Ready (r .operand))
+    (cond (eqb (r .kind) 17) (Switch (operandThread (r .operand)))
+    (cond (eqb (r .kind) 18) (Won (r .operand))
+    (cond (eqb (r .kind) 19) (Lost (r .operand))
+    (cond (eqb (r .kind) 20) (Yield (r .operand)) (cond (eqb (r .kind) 21) (Expire (r .operand)) (cond (eqb (r .kind) 22) (Late (r .operand)) (Yield nobody)))))))
 
 abbrev pub noReport : Report
-noReport = record { kind = 0; who = 0 }
+noReport = record { kind = 0; spare = 0; operand = 0 }
+
+-- the Switch to a thread by its number
+abbrev pub switchTo : (thread : ℕ) → Report
+switchTo t = record { kind = 17; spare = 0; operand = operandNumber (threadOf t) }
 
 -- so many reports, by their places
 abbrev pub listed : (at : ℕ → Report) (count : ℕ) → List records.Report

@@ -4,11 +4,14 @@ use mathlib.Core.List.{List}
 use mathlib.Core.Option.{Option, none, some}
 use Prim.Native.Nat.{ℕ}
 use lib.Dec.{eqb, ltb}
+use Rattle.model.specs.Timers.{slot, isArmed}
 use Rattle.model.specs.Rules.{holdsNone, holdsNot, lastTaken}
 use Rattle.plan.specs.View.{mayTakeIn}
 use Rattle.lists.specs.declared.holds.Holds.{Holds}
 use Rattle.lists.specs.Words.{nibble}
 use Rattle.lists.specs.Lists.{numbered, held}
+use Rattle.clock.specs.declared.timers.Timers.{Timers}
+use Rattle.clock.specs.View.{view}
 use Rattle.machine.specs.declared.reports.Report.{Report}
 use Rattle.machine.specs.declared.slots.Slots.{Slots}
 
@@ -32,6 +35,9 @@ takeRule threads needs hs x s = cond (eqb x 255) 22 (cond (mayTakeIn threads nee
 abbrev pub giveRule : Holds → (chosen section : ℕ) → ℕ
 giveRule hs x s = cond (eqb x 255) 22 (cond (eqb (numbered (lastTaken (held hs) x)) s) 0 27)
 
+abbrev pub cancelRule : Timers → (chosen timer : ℕ) → ℕ
+cancelRule ts x i = cond (eqb x 255) 22 (cond (isArmed (slot (view ts) i)) 0 32)
+
 -- where this report is due first: 21 of a call, 29 and 30 of a report
-abbrev pub dueRule : (first : Report) (kind who : ℕ) → ℕ
-dueRule d k t = cond (ltb k 16) 21 (cond (eqb (d .kind) k) (cond (eqb (d .who) t) 0 30) 29)
+abbrev pub dueRule : (first : Report) (kind operand : ℕ) → ℕ
+dueRule d k n = cond (ltb k 16) 21 (cond (eqb (d .kind) k) (cond (eqb (d .operand) n) 0 30) 29)

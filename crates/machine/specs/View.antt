@@ -12,27 +12,25 @@ use Rattle.model.specs.Records as records
 use Rattle.plan.specs.View as plans
 use Rattle.lists.specs.Words.{nibble}
 use Rattle.lists.specs.Lists.{queued, held}
+use Rattle.clock.specs.declared.time.Tick.{Tick}
+use Rattle.clock.specs.View as timing
+use Rattle.clock.specs.View.{numberAt}
 use Rattle.machine.specs.declared.slots.Slots.{Slots}
 use Rattle.machine.specs.declared.Machine.{Machine}
 use Rattle.machine.specs.declared.state.State.{State}
 use Rattle.machine.specs.declared.reports.Report.{Report}
 use Rattle.machine.specs.declared.reports.Reports.{Reports}
 use Rattle.machine.specs.declared.reporting.Reporting.{Reporting}
-use Rattle.machine.specs.declared.time.Tick.{Tick}
-use Rattle.machine.specs.Lists.{threadOf, noReport, listed, owed}
+use Rattle.machine.specs.Lists.{threadOf, noReport, switchTo, listed, owed}
 
 -- a condition by its number: 0 dormant, 1 ready, 2 asleep until a tick number, 3 waiting for a section. Any other number stands for a wait
 -- for a section that no plan has, so that answer 12 is a question about the state alone.
 abbrev pub conditionOf : (state want wake : ℕ) → Condition
 conditionOf s n w = cond (eqb s 0) dormant (cond (eqb s 1) ready (cond (eqb s 2) (asleep w) (cond (eqb s 3) (waiting n) (waiting 255))))
 
--- the tick number of a thread's entry, 0 past the end
-abbrev pub wakeOf : List Tick → (thread : ℕ) → ℕ
-wakeOf wakes t = getD wakes t (record { 0 = 0 }) .0
-
 -- the condition of a thread
 abbrev pub conditionIn : Slots → (wakes : List Tick) (thread : ℕ) → Condition
-conditionIn s wakes t = conditionOf (nibble (s .states) t) (nibble (s .wants) t) (wakeOf wakes t)
+conditionIn s wakes t = conditionOf (nibble (s .states) t) (nibble (s .wants) t) (numberAt wakes t)
 
 -- one for each thread
 abbrev pub conditionsOf : (threads : ℕ) → Slots → (wakes : List Tick) → List Condition
@@ -52,6 +50,7 @@ viewed m due =
       waits = queued (m .waits);
       reported = threadOf (m .reported);
       due = due;
+      timers = timing.view (m .timers);
     }
 
 -- with nothing due, as it is at every call
@@ -68,7 +67,7 @@ reportsIn c = record { items = c .reports; count = c .count }
 
 -- Of a machine with the reports of its latest call: those of the array, and behind them the Switch to the chosen thread, as far as they are due.
 abbrev pub reportAt : Reporting → (place : ℕ) → Report
-reportAt c i = cond (ltb i (c .count)) (getD (c .reports) i noReport) (record { kind = 17; who = c .chosen })
+reportAt c i = cond (ltb i (c .count)) (getD (c .reports) i noReport) (switchTo (c .chosen))
 
 abbrev pub shown : Reporting → state.State
 shown c = viewed (c .machine) (drop (c .given) (listed (reportAt c) (c .due)))

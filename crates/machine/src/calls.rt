@@ -2,12 +2,13 @@
 // its Switch last, or with the rule that it breaks.
 ghost use Rattle.model.specs.Records as records;
 ghost use Rattle.machine.specs.Calls.{Calls, Called};
+use crate::quiet::next_event;
 use crate::reporting::Reporting;
 use crate::reports::Reports;
 use crate::rules;
 use crate::slots;
-use crate::time::Tick;
-use crate::time::Wait;
+use clock::time::Tick;
+use clock::time::Wait;
 use lists::choice;
 use lists::nibbles::nibble_at;
 use plan::lookup::base;
@@ -34,7 +35,7 @@ impl Reporting {
         c.owing(m, rule, who, self.quiet)
     }
 
-    // Tick: see model, Calls.tick. Who sleeps soonest is asked anew.
+    // Tick: see model, Calls.tick. What happens next is asked anew.
     pub fn tick(self, ceilings: &[u8; 16]) -> Reporting
         requires { ⌜ Calls self (now ceilings) records.Tick ⌝ }
         ensures { λ r. ⌜ Called r self records.Tick ⌝ }
@@ -48,7 +49,8 @@ impl Reporting {
         let wakes = m.wakes;
         let mut slots = m.slots;
         let mut queue = m.queue;
-        let mut rs = Reports::none();
+        let timers = m.timers;
+        let mut rs = Reports::expired(timers, number);
         let mut i: usize = 0;
         while i < n {
             let state = nibble_at(old.states, i as u8);
@@ -62,12 +64,14 @@ impl Reporting {
         m.tick = number;
         m.slots = slots;
         m.queue = queue;
-        let quiet = slots.soonest(wakes, n);
+        let later = timers.moved_on(number);
+        m.timers = later;
+        let quiet = next_event(n, slots, wakes, later);
         let who = m.chosen(ceilings);
         self.telling(rs).owing(m, 0, who, quiet)
     }
 
-    // Delay: see model, Calls.delay. Who sleeps soonest is no longer known.
+    // Delay: see model, Calls.delay. What happens next is no longer known.
     pub fn delay(self, ceilings: &[u8; 16], wait: Wait) -> Reporting
         requires { ⌜ Calls self (now ceilings) (records.Delay (wait .0)) ⌝ }
         ensures { λ r. ⌜ Called r self (records.Delay (wait .0)) ⌝ }

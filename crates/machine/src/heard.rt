@@ -1,8 +1,13 @@
-// Reports, and records where reports are due: rules 21 and 28 to 30.
+// Reports, and records where reports are due or that stand outside their place in an arming: rules 21, 28 to 30 and 31.
 ghost use mathlib.Core.Path.{_≡_};
+ghost use mathlib.Core.Bool.{not, _||_};
 ghost use Prim.Native.Nat.{_<_};
+ghost use lib.Dec.{T, ltb};
+ghost use Rattle.model.specs.Formed.{armingInRange};
+ghost use Rattle.clock.specs.View as timing;
+ghost use Rattle.machine.specs.Lists.{reportRoom};
 ghost use Rattle.machine.specs.View.{reportAt};
-ghost use Rattle.machine.specs.Calls.{Hearing, Hears, unasked};
+ghost use Rattle.machine.specs.Calls.{inPlace, Hearing, Hears, unasked};
 use crate::reporting::Reporting;
 use crate::reports::Report;
 use crate::rules::due_rule;
@@ -10,14 +15,11 @@ use crate::rules::due_rule;
 impl Reporting {
     // The report due first: one of the array, or the Switch behind them.
     fn first(self) -> Report
-        requires { ⌜ (self .given < self .count → self .given < 17) ⌝ }
+        requires { ⌜ (self .given < self .count → self .given < reportRoom) ⌝ }
         ensures { λ r. ⌜ r ≡ reportAt self (self .given) ⌝ }
     {
         let given = self.given;
-        let mut first = Report {
-            kind: 17,
-            who: self.chosen,
-        };
+        let mut first = Report::switch(self.chosen);
         if given < self.count {
             let all = self.reports;
             first = all[given];
@@ -25,19 +27,35 @@ impl Reporting {
         first
     }
 
-    // A record where a report is due, by its kind and the thread that it names: a call breaks 21, and a report is the first due or breaks
-    // 29 or 30. A Switch given names the thread reported.
-    pub fn heard(self, kind: u8, who: u8) -> Reporting
-        requires { ⌜ Hearing self ⌝ }
-        ensures { λ r. ⌜ Hears r self kind who ⌝ }
+    // Whether a record of this kind is no call to be made: a report is due, or the record stands outside its place.
+    pub fn hears(self, kind: u8) -> bool
+        requires { ⌜ T (armingInRange (timing.view (self .machine .timers) .arming)) ⌝ }
+        ensures { λ r. ⌜ r ≡ ltb (self .given) (self .due) || not (inPlace (self .machine) kind) ⌝ }
+    {
+        let m = self.machine;
+        let t = m.timers;
+        self.given < self.due || !t.in_order(kind)
+    }
+
+    // Such a record, by its kind and operand: outside its place it breaks 31; a call breaks 21, and a report is the first due or breaks 29 or 30. A
+    // Switch given names the thread reported.
+    pub fn heard(self, kind: u8, operand: u16) -> Reporting
+        requires { ⌜ Hearing self kind ⌝ }
+        ensures { λ r. ⌜ Hears r self kind operand ⌝ }
     {
         let mut c = self;
+        let m = self.machine;
+        let t = m.timers;
         let given = self.given;
-        let first = self.first();
-        let rule = due_rule(first, kind, who);
+        let mut rule: u8 = 31;
+        if t.in_order(kind) {
+            let first = self.first();
+            rule = due_rule(first, kind, operand);
+        }
         if rule == 0 {
             c.given = given + 1;
             if kind == 17 {
+                let who = (operand % 256) as u8;
                 c.machine.reported = who;
             }
         }

@@ -1,14 +1,34 @@
-// Ticks at which nobody wakes and no Switch becomes due: they move the tick number alone.
+// Ticks at which nothing happens: nobody wakes, no timer expires and no Switch becomes due, so that they move the tick number alone.
 ghost use mathlib.Core.Path.{_≡_};
 ghost use mathlib.Core.Bool.{_&&_};
 ghost use Prim.Native.Nat.{_+_, _≤_, _<_};
 ghost use lib.Dec.{eqb, ltb};
 ghost use Rattle.model.specs.Formed.{lastTick};
-ghost use Rattle.machine.specs.Contracts.{quieted, passed};
+ghost use Rattle.machine.specs.Contracts.{nextEvent, quieted, passed};
 use crate::reporting::Reporting;
+use crate::slots::Slots;
+use clock::time::Tick;
+use clock::timers::Timers;
+
+// The tick number before which nobody wakes and no timer expires, 0 inside an arming, where every Tick breaks a rule. It takes the parts that it reads,
+// so that the machine of the walk stays in its fields.
+pub(crate) fn next_event(threads: usize, slots: Slots, wakes: [Tick; 16], timers: Timers) -> Tick
+    requires { ⌜ threads ≤ 16 ⌝ }
+    ensures { λ r. ⌜ r .0 ≡ nextEvent threads slots wakes timers ⌝ }
+{
+    let mut first = Tick(0);
+    if timers.is_complete() {
+        first = slots.soonest(wakes, threads);
+        let next = timers.soonest();
+        if next.0 < first.0 {
+            first = next;
+        }
+    }
+    first
+}
 
 impl Reporting {
-    // With the tick number before which nobody wakes, asked of the sleepers.
+    // With the tick number before which nothing happens, asked of the sleepers and the timers.
     pub fn quieted(self) -> Reporting
         requires { ⌜ self .machine .plan .threads ≤ 16 ⌝ }
         ensures { λ r. ⌜ r ≡ quieted self ⌝ }
@@ -18,12 +38,13 @@ impl Reporting {
         let p = m.plan;
         let s = m.slots;
         let wakes = m.wakes;
-        let until = s.soonest(wakes, p.threads);
+        let t = m.timers;
+        let until = next_event(p.threads, s, wakes, t);
         c.quiet = until;
         c
     }
 
-    // Whether the next Tick wakes nobody and makes no Switch due.
+    // Whether the next Tick wakes nobody, no timer expires at it, and it makes no Switch due.
     pub fn is_quiet(self) -> bool
         requires { ⌜ self .machine .tick .0 < lastTick ⌝ }
         ensures { λ r. ⌜ r ≡ ltb (self .machine .tick .0 + 1) (self .quiet .0) && eqb (self .chosen) (self .machine .reported) ⌝ }

@@ -1,6 +1,14 @@
 // A record: what a thread or the clock called, or what the kernel did.
 use crate::reports::Report;
-use crate::time::Wait;
+use clock::time::Wait;
+
+// A call that sets timers, with its operand.
+pub enum TimerCall {
+    Arm(u8),
+    Start(u16),
+    Period(u16),
+    Cancel(u8),
+}
 
 // A call with its operand, or a report.
 pub enum Record {
@@ -11,5 +19,6 @@ pub enum Record {
     Take(u8),
     Give(u8),
     Tick,
+    Timing(TimerCall),
     Report(Report),
 }

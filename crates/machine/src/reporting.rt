@@ -2,18 +2,21 @@
 // call but a Tick each report has a place that is known when the code is compiled.
 ghost use mathlib.Core.Path.{_≡_};
 ghost use mathlib.Core.List.{[], _∷_, _++_};
-ghost use Prim.Native.Nat.{_<_};
+ghost use Prim.Native.Nat.{_<_, min};
 ghost use lib.Dec.{ltb};
 ghost use Rattle.model.specs.Priorities.{chosen};
+ghost use Rattle.model.specs.Records.{Late};
 ghost use Rattle.lists.specs.Lists.{numbered};
-ghost use Rattle.machine.specs.Lists.{reportOf, owed};
+ghost use Rattle.machine.specs.Lists.{reportRoom, reportOf, owed};
 ghost use Rattle.machine.specs.View.{planOf, idle, reportsIn};
 ghost use Rattle.machine.specs.Contracts.{Starts, Chooses, owing};
 use crate::Machine;
+use crate::reports::ROOM;
 use crate::reports::Report;
 use crate::reports::Reports;
 use crate::slots::Slots;
-use crate::time::Tick;
+use clock::time::Tick;
+use clock::timers::Timers;
 use lists::choice;
 use lists::holds::Holds;
 use lists::queue::Queue;
@@ -21,10 +24,10 @@ use plan::Plan;
 
 // `count` reports stand in the array; `due` is how many the call made due, one more where a Switch to the chosen thread is among them. The first
 // `given` are given.
-// Nobody wakes before the tick number `quiet`. `rule` is the one that the latest record broke, 0 if there is none.
+// Nothing happens before the tick number `quiet`. `rule` is the one that the latest record broke, 0 if there is none.
 pub struct Reporting {
     pub machine: Machine,
-    pub reports: [Report; 17],
+    pub reports: [Report; ROOM],
     pub count: usize,
     pub due: usize,
     pub given: usize,
@@ -50,6 +53,7 @@ impl Machine {
             holds: Holds::none(),
             waits: Queue::none(),
             reported: 255,
+            timers: Timers::none(),
         }
     }
 
@@ -86,10 +90,14 @@ impl Reporting {
 
     // With one report.
     pub(crate) fn one(self, kind: u8, who: u8) -> Reporting
-        ensures { λ r. ⌜ owed (reportsIn r) ≡ reportOf (record { kind = kind; who = who }) ∷ [] ⌝ }
+        ensures { λ r. ⌜ owed (reportsIn r) ≡ reportOf (record { kind = kind; spare = 0; operand = who }) ∷ [] ⌝ }
     {
         let mut c = self;
-        c.reports[0] = Report { kind, who };
+        c.reports[0] = Report {
+            kind,
+            spare: 0,
+            operand: who as u16,
+        };
         c.count = 1;
         c
     }
@@ -97,11 +105,30 @@ impl Reporting {
     // With a second report behind the first.
     pub(crate) fn two(self, kind: u8, who: u8) -> Reporting
         requires { ⌜ self .count ≡ 1 ⌝ }
-        ensures { λ r. ⌜ owed (reportsIn r) ≡ owed (reportsIn self) ++ (reportOf (record { kind = kind; who = who }) ∷ []) ⌝ }
+        ensures { λ r. ⌜ owed (reportsIn r) ≡ owed (reportsIn self) ++ (reportOf (record { kind = kind; spare = 0; operand = who }) ∷ []) ⌝ }
     {
         let mut c = self;
-        c.reports[1] = Report { kind, who };
+        c.reports[1] = Report {
+            kind,
+            spare: 0,
+            operand: who as u16,
+        };
         c.count = 2;
+        c
+    }
+
+    // With a Late. A count above 65535 is written 65535.
+    pub(crate) fn late(self, count: u32) -> Reporting
+        ensures { λ r. ⌜ owed (reportsIn r) ≡ Late (min count 65535) ∷ [] ⌝ }
+    {
+        let mut c = self;
+        let operand = if count < 65535 { count as u16 } else { 65535 };
+        c.reports[0] = Report {
+            kind: 22,
+            spare: 0,
+            operand,
+        };
+        c.count = 1;
         c
     }
 
@@ -119,7 +146,7 @@ impl Reporting {
     // What a call hands back: its reports, and behind them a Switch where the chosen thread is not the one reported. A broken rule makes
     // none due.
     pub(crate) fn owing(self, machine: Machine, rule: u8, chosen: u8, quiet: Tick) -> Reporting
-        requires { ⌜ self .count < 17 ⌝ }
+        requires { ⌜ self .count < reportRoom ⌝ }
         ensures { λ r. ⌜ r ≡ owing machine (reportsIn self) rule chosen quiet ⌝ }
     {
         let mut c = self;

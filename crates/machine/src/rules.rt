@@ -1,9 +1,11 @@
 // The questions asked of a record: the number of the first No, 0 if there is none.
 ghost use mathlib.Core.Path.{_≡_};
 ghost use Prim.Native.Nat.{_≤_, _<_};
-ghost use Rattle.machine.specs.Rules.{createRule, freeRule, takeRule, giveRule, runRule, dueRule};
+ghost use Rattle.model.specs.Records.{timerCount};
+ghost use Rattle.machine.specs.Rules.{createRule, freeRule, takeRule, giveRule, runRule, cancelRule, dueRule};
 use crate::reports::Report;
 use crate::slots::Slots;
+use clock::timers::Timers;
 use lists::holds::Holds;
 use plan::lookup::may_take;
 
@@ -68,9 +70,21 @@ pub(crate) fn give_rule(holds: Holds, chosen: u8, section: u8) -> u8
     }
 }
 
-// Where this report is due first: 21 of a call, and of a report 29 and 30: is the first due of this kind, and does it name this thread?
-pub(crate) fn due_rule(first: Report, kind: u8, who: u8) -> u8
-    ensures { λ r. ⌜ r ≡ dueRule first kind who ⌝ }
+// 22, and 32: is the timer armed?
+pub(crate) fn cancel_rule(timers: Timers, chosen: u8, timer: u8) -> u8
+    requires { ⌜ timer < timerCount ⌝ }
+    ensures { λ r. ⌜ r ≡ cancelRule timers chosen timer ⌝ }
+{
+    if chosen == 255 {
+        return 22;
+    }
+    if timers.is_armed(timer) { 0 } else { 32 }
+}
+
+// Where this report is due first: 21 of a call, and of a report 29 and 30: is the first due of this kind, and does it name this thread? Whole operands
+// are compared.
+pub(crate) fn due_rule(first: Report, kind: u8, operand: u16) -> u8
+    ensures { λ r. ⌜ r ≡ dueRule first kind operand ⌝ }
 {
     if kind < 16 {
         return 21;
@@ -78,5 +92,5 @@ pub(crate) fn due_rule(first: Report, kind: u8, who: u8) -> u8
     if first.kind != kind {
         return 29;
     }
-    if first.who == who { 0 } else { 30 }
+    if first.operand == operand { 0 } else { 30 }
 }

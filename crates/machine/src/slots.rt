@@ -6,8 +6,8 @@ ghost use lib.Dec.{eqb};
 ghost use Rattle.lists.specs.Words.{nibble};
 ghost use Rattle.machine.specs.View.{conditionsOf};
 ghost use Rattle.machine.specs.Contracts.{placed, waitsFor, soonest};
-use crate::time::LAST_WAKE;
-use crate::time::Tick;
+use clock::time::LAST_WAKE;
+use clock::time::Tick;
 use lists::nibbles::nibble_at;
 use lists::nibbles::with_nibble;
 

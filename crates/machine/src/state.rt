@@ -1,6 +1,7 @@
 // A machine with the reports that it owes, as it is lent.
 ghost use mathlib.Core.Path.{_≡_};
 ghost use lib.ListN.{length};
+ghost use Rattle.model.specs.Timers.{isComplete};
 ghost use Rattle.machine.specs.View.{view};
 ghost use Rattle.machine.specs.Contracts.{Fresh, Owes, FirstDue, Delivers, opened};
 ghost use Rattle.machine.specs.Calls.{Apart, Closes};
@@ -8,7 +9,7 @@ use crate::Machine;
 use crate::reporting::Reporting;
 use crate::reports::Report;
 use crate::reports::Reports;
-use crate::time::Tick;
+use clock::time::Tick;
 use plan::Plan;
 
 // The reports due are those behind the first `given`.
@@ -41,6 +42,15 @@ impl State {
         if at < n { n - at } else { 0 }
     }
 
+    // Whether no arming is in progress.
+    pub fn is_complete(self) -> bool
+        ensures { λ r. ⌜ r ≡ isComplete (view self .timers .arming) ⌝ }
+    {
+        let m = self.machine;
+        let t = m.timers;
+        t.is_complete()
+    }
+
     // The report due first.
     pub fn first_due(self) -> Report
         requires { ⌜ Owes self ⌝ }
@@ -53,12 +63,12 @@ impl State {
 
     // The first report due is given; a Switch given names the thread reported.
     pub fn delivered(self, given: Report) -> State
-        requires { ⌜ Owes self ⌝ }
+        requires { ⌜ Owes self × FirstDue given self ⌝ }
         ensures { λ r. ⌜ Delivers r self given ⌝ }
     {
         let mut m = self.machine;
         if given.kind == 17 {
-            m.reported = given.who;
+            m.reported = (given.operand % 256) as u8;
         }
         let due = self.due;
         let n = self.given;
@@ -69,7 +79,7 @@ impl State {
         }
     }
 
-    // To be moved on from, with its chosen thread: all reports stand in the array, and who sleeps soonest is not known.
+    // To be moved on from, with its chosen thread: all reports stand in the array, and what happens next is not known.
     pub fn opened(self, chosen: u8) -> Reporting
         ensures { λ r. ⌜ r ≡ opened self chosen ⌝ }
     {
@@ -99,10 +109,7 @@ impl Reporting {
         let mut items = self.reports;
         let n = self.count;
         if n < self.due {
-            items[n] = Report {
-                kind: 17,
-                who: self.chosen,
-            };
+            items[n] = Report::switch(self.chosen);
         }
         State {
             machine,

@@ -1,6 +1,8 @@
--- The bench kernel's list of records is clean with none due, and every such list is the bench's list of its own calls.
+-- The bench kernel's list of records is clean with none due and no arming in progress, and every such list is the bench's list of its own calls.
 use mathlib.Core.Path.{_≡_, refl, ap, sym, subst, _∙_}
-use mathlib.Core.List.{List, [], _∷_, _++_, map, tail, List·Memᴰ as Mem, List·Memᴰ·head as here, List·Memᴰ·tail as there}
+use mathlib.Core.Logic.{_⊎_, inl, inr}
+use mathlib.Core.Bool.{cond, not}
+use mathlib.Core.List.{List, [], _∷_, _++_, map, tail, cons≢nil, List·Memᴰ as Mem, List·Memᴰ·head as here, List·Memᴰ·tail as there}
 use mathlib.Core.Option.{Option, none, some, Option·none-ne-some, Option·some-injective}
 use Prim.Native.Nat.{ℕ, suc, _+_}
 use native.Mathlib.Omega.{arith}
@@ -8,18 +10,20 @@ use lib.Dec.{T, eqb, eqb-refl}
 use lib.ListN.{length, length-append, length-map}
 use Rattle.model.specs.Searches.{_▷_, all, same}
 use Rattle.model.specs.Plan.{Plan, validPlan}
-use Rattle.model.specs.Records.{Call, Report, Record, call, report, reportKind, named, allowedCall, allowed}
+use Rattle.model.specs.Records.{Call, Report, Record, call, report, reportKind, operand, allowedCall, allowed}
+use Rattle.model.specs.Timers.{isComplete}
 use Rattle.model.specs.State.{State, start, switchedTo, latestSwitch, setReported, setDue}
 use Rattle.model.specs.Priorities.{greatestHold, current, chosen}
-use Rattle.model.specs.Rules.{broken}
+use Rattle.model.specs.Rules.{stage, broken}
 use Rattle.model.specs.Runs.{effect, deliver, Outcome, moved, broke, step, clean, run, judge, Clean}
-use Rattle.model.specs.Bench.{deliverAll, behind, benchFrom, bench, callsOf}
-use Rattle.model.proofs.Tests.{is-true, same-refl, and-left, and-right, and-both}
+use Rattle.model.specs.Bench.{deliverAll, behind, benchFrom, bench, callsOf, Complete}
+use Rattle.model.proofs.Tests.{split, is-true, is-false, eq-test, same-refl, and-left, and-right, and-both}
 use Rattle.model.proofs.Searches.{all-append}
 use Rattle.model.proofs.Performed.{answered, idle, reports-first}
 use Rattle.model.proofs.Reached.{Reached, begin, next}
+use Rattle.model.proofs.Timers.{Settled, settled}
 use Rattle.model.proofs.Bounds.{due-named}
-use Rattle.model.proofs.Prefixes.{run-ended, run-moved, run-clean}
+use Rattle.model.proofs.Prefixes.{run-ended, run-moved, run-clean, ending, ending-after}
 
 -- reports are no calls
 calls-behind : (ds : List Report) (rs : List Record) → callsOf (map report ds ++ rs) ≡ callsOf rs
@@ -36,23 +40,32 @@ record FirstCall (p : Plan) (st : State) (k : Call) (ks : List Call) (rs : List 
 
 module _ (p : Plan) where
   -- the first report due breaks no rule
-  one-report : (st : State) (d : Report) (ds : List Report) → step p (st ▷ setDue (d ∷ ds)) (report d) ≡ moved (st ▷ setReported (switchedTo (st .reported) d) ▷ setDue ds)
+  one-report : (st : State) (d : Report) (ds : List Report) → stage (st .timers .arming) ≡ 0 → step p (st ▷ setDue (d ∷ ds)) (report d) ≡ moved (st ▷ setReported (switchedTo (st .reported) d) ▷ setDue ds)
   unfolding step broken
-  one-report st d ds = rw (is-true (eqb (reportKind d) (reportKind d)) (eqb-refl (reportKind d)), is-true (same (named d) (named d)) (same-refl (named d)))
+  one-report st d ds z = rw (is-true (eqb (stage (st .timers .arming)) 0) (eq-test (stage (st .timers .arming)) 0 z), is-true (eqb (reportKind d) (reportKind d)) (eqb-refl (reportKind d)), is-true (same (operand d) (operand d)) (same-refl (operand d)))
+
+  -- where a report is due no arming is in progress
+  settles : (st : State) (d : Report) (ds : List Report) → Settled (st ▷ setDue (d ∷ ds)) → stage (st .timers .arming) ≡ 0
+  settles st d ds (inl e) = absurd (cons≢nil e)
+  settles st d ds (inr e) = e
 
   -- the run over the reports due, in order, leads to the state in which all are given
-  reports-run : (ds : List Report) (rs : List Record) (i : ℕ) (st : State) → run p i (map report ds ++ rs) (st ▷ setDue ds) ≡ run p (i + length ds) rs (deliverAll (st ▷ setDue ds))
-  reports-run [] rs i st = let z : i ≡ i + 0 = omega arith in ap (λ (n : ℕ). run p n rs (deliverAll (st ▷ setDue []))) z
-  reports-run (d ∷ ds) rs i st =
+  reports-run : (ds : List Report) (rs : List Record) (i : ℕ) (st : State) → Settled (st ▷ setDue ds) → run p i (map report ds ++ rs) (st ▷ setDue ds) ≡ run p (i + length ds) rs (deliverAll (st ▷ setDue ds))
+  reports-run [] rs i st s = let z : i ≡ i + 0 = omega arith in ap (λ (n : ℕ). run p n rs (deliverAll (st ▷ setDue []))) z
+  reports-run (d ∷ ds) rs i st s =
       let z : suc i + length ds ≡ i + suc (length ds) = omega arith in
-      run-moved p i (report d) (map report ds ++ rs) (st ▷ setDue (d ∷ ds)) (st ▷ setReported (switchedTo (st .reported) d) ▷ setDue ds) (one-report st d ds)
-      ∙ reports-run ds rs (suc i) (st ▷ setReported (switchedTo (st .reported) d))
+      run-moved p i (report d) (map report ds ++ rs) (st ▷ setDue (d ∷ ds)) (st ▷ setReported (switchedTo (st .reported) d) ▷ setDue ds) (one-report st d ds (settles st d ds s))
+      ∙ reports-run ds rs (suc i) (st ▷ setReported (switchedTo (st .reported) d)) (inr (settles st d ds s))
       ∙ ap (λ (n : ℕ). run p n rs (deliverAll (st ▷ setDue (d ∷ ds)))) z
 
   -- and that state is reached too
   reports-reach : (ds : List Report) (st : State) → Reached p (st ▷ setDue ds) → Reached p (deliverAll (st ▷ setDue ds))
   reports-reach [] st r = r
-  reports-reach (d ∷ ds) st r = reports-reach ds (st ▷ setReported (switchedTo (st .reported) d)) (next (report d) r (due-named p (st ▷ setDue (d ∷ ds)) r d (here refl)) (one-report st d ds))
+  reports-reach (d ∷ ds) st r = reports-reach ds (st ▷ setReported (switchedTo (st .reported) d)) (next (report d) r (due-named p (st ▷ setDue (d ∷ ds)) r d (here refl)) (one-report st d ds (settles st d ds (settled p (st ▷ setDue (d ∷ ds)) r))))
+
+  reports-end : (ds : List Report) (rs : List Record) (st : State) → ending p (map report ds ++ rs) (st ▷ setDue ds) ≡ ending p rs (deliverAll (st ▷ setDue ds))
+  reports-end [] rs st = refl
+  reports-end (d ∷ ds) rs st = reports-end ds rs (st ▷ setReported (switchedTo (st .reported) d))
 
   reports-allowed : (ds : List Report) → ((d : Report) → Mem d ds → T (allowed p (report d))) → T (all (allowed p) (map report ds))
   reports-allowed [] f = tt
@@ -62,7 +75,7 @@ module _ (p : Plan) where
   abbrev writes : Call → List Call → Outcome → Option (List Record)
   writes k ks o = elim o as (λ (x : Outcome). Option (List Record)) [ moved st' ↦ behind (call k ∷ map report (st' .due)) (benchFrom p (deliverAll st') ks) | broke n ↦ none ]
 
-  pub bench-ended : (st : State) → benchFrom p st [] ≡ some []
+  pub bench-ended : (st : State) → benchFrom p st [] ≡ cond (isComplete (st .timers .arming)) (some []) none
   unfolding benchFrom
   bench-ended st = refl
 
@@ -104,6 +117,7 @@ record Written (p : Plan) (i : ℕ) (st : State) (ks : List Call) (rs : List Rec
   operands : T (all (allowed p) rs)
   verdict : run p i rs st ≡ clean (i + length rs) 0
   calls : callsOf rs ≡ ks
+  complete : T (isComplete (ending p rs st .timers .arming))
 
 -- a call with its reports, and behind them what is written from there
 written-behind : (p : Plan) (i : ℕ) (st st' : State) (k : Call) (ks : List Call) (rest : List Record) → T (allowedCall p k) → step p st (call k) ≡ moved st' → Reached p st' → Written p (suc i + length (st' .due)) (deliverAll st') ks rest
@@ -111,8 +125,9 @@ written-behind : (p : Plan) (i : ℕ) (st st' : State) (k : Call) (ks : List Cal
 written-behind p i st st' k ks rest a e r w =
     record {
       operands = and-both (allowedCall p k) (all (allowed p) (map report (st' .due) ++ rest)) a (all-append (allowed p) (map report (st' .due)) rest (reports-allowed p (st' .due) (due-named p st' r)) (w .operands));
-      verdict = run-moved p i (call k) (map report (st' .due) ++ rest) st st' e ∙ reports-run p (st' .due) rest (suc i) st' ∙ w .verdict ∙ ap (λ (n : ℕ). clean n 0) count;
+      verdict = run-moved p i (call k) (map report (st' .due) ++ rest) st st' e ∙ reports-run p (st' .due) rest (suc i) st' (settled p st' r) ∙ w .verdict ∙ ap (λ (n : ℕ). clean n 0) count;
       calls = ap {B = List Call} (λ l. k ∷ l) (calls-behind (st' .due) rest ∙ w .calls);
+      complete = subst (λ (s : State). T (isComplete (s .timers .arming))) (sym (ap (ending p (map report (st' .due) ++ rest)) (answered p st (call k) st' e .1) ∙ reports-end p (st' .due) rest st')) (w .complete);
     }
   where
     count : suc i + length (st' .due) + length rest ≡ i + suc (length (map report (st' .due) ++ rest))
@@ -120,9 +135,16 @@ written-behind p i st st' k ks rest a e r w =
 
 bench-written : (p : Plan) (ks : List Call) (rs : List Record) (i : ℕ) (st : State) → Reached p st → st .due ≡ [] → T (all (allowedCall p) ks) → benchFrom p st ks ≡ some rs → Written p i st ks rs
 unfolding benchFrom
-bench-written p [] rs i st r q a e =
-    let z : i ≡ i + 0 = omega arith in
-    subst (Written p i st []) (Option·some-injective [] rs e) (record { operands = tt; verdict = run-ended p i st ∙ ap (λ (l : List Report). clean i (length l)) q ∙ ap (λ (n : ℕ). clean n 0) z; calls = refl })
+bench-written p [] rs i st r q a e = go (split (isComplete (st .timers .arming)))
+  where
+    z : i ≡ i + 0
+    z = omega arith
+
+    go : T (isComplete (st .timers .arming)) ⊎ T (not (isComplete (st .timers .arming))) → Written p i st [] rs
+    go (inl t) =
+        subst (Written p i st []) (Option·some-injective [] rs (rw (is-true (isComplete (st .timers .arming)) t) at e))
+        (record { operands = tt; verdict = run-ended p i st ∙ ap (λ (l : List Report). clean i (length l)) q ∙ ap (λ (n : ℕ). clean n 0) z; calls = refl; complete = t })
+    go (inr t) = absurd (Option·none-ne-some rs (rw (is-false (isComplete (st .timers .arming)) t) at e))
 bench-written p (k ∷ ks) rs i st r q a e =
     let f = bench-first p st k ks rs e in
     let b = and-left (allowedCall p k) (all (allowedCall p) ks) a in
@@ -130,13 +152,13 @@ bench-written p (k ∷ ks) rs i st r q a e =
     let w = bench-written p ks (f .rest) (suc i + length (f .to .due)) (deliverAll (f .to)) (reports-reach p (f .to .due) (f .to) reached) refl (and-right (allowedCall p k) (all (allowedCall p) ks) a) (f .later) in
     subst (Written p i st (k ∷ ks)) (f .joined) (written-behind p i st (f .to) k ks (f .rest) b (f .moves) reached w)
 
--- The bench's records are allowed and clean, none is due at their end, and their calls are the list given.
-pub bench-clean : (p : Plan) (ks : List Call) (rs : List Record) → T (validPlan p) → T (all (allowedCall p) ks) → bench p ks ≡ some rs → (c : Clean p rs) × (c .due ≡ 0) × (callsOf rs ≡ ks)
+-- The bench's records are allowed and clean, none is due at their end, their calls are the list given, and they don't end inside an arming.
+pub bench-clean : (p : Plan) (ks : List Call) (rs : List Record) → T (validPlan p) → T (all (allowedCall p) ks) → bench p ks ≡ some rs → (c : Clean p rs) × (c .due ≡ 0) × (callsOf rs ≡ ks) × Complete p rs
 unfolding bench judge
 bench-clean p ks rs v a e =
     let w = bench-written p ks rs 0 (start p) begin refl a e in
     let z : 0 + length rs ≡ length rs = omega arith in
-    (record { plan = v; operands = w .operands; due = 0; verdict = w .verdict ∙ ap (λ (n : ℕ). clean n 0) z }, refl, w .calls)
+    (record { plan = v; operands = w .operands; due = 0; verdict = w .verdict ∙ ap (λ (n : ℕ). clean n 0) z }, refl, w .calls, subst (λ (s : State). T (isComplete (s .timers .arming))) (ending-after p rs) (w .complete))
 
 -- the records of a clean run with none due at its end: the reports due, and then what the bench writes once they are given
 abbrev IsBench : Plan → State → List Record → Type 0
@@ -161,17 +183,17 @@ module _ (p : Plan) (st : State) (rs : List Record) where
       q : st .due ≡ d ∷ tail (st .due)
       q = reports-first p st d (answered p st (report d) (deliver d st) f .0)
 
-is-bench : (p : Plan) (rs : List Record) (i : ℕ) (st : State) (n : ℕ) → run p i rs st ≡ clean n 0 → IsBench p st rs
+is-bench : (p : Plan) (rs : List Record) (i : ℕ) (st : State) (n : ℕ) → run p i rs st ≡ clean n 0 → T (isComplete (ending p rs st .timers .arming)) → IsBench p st rs
 unfolding benchFrom
-is-bench p [] i st n e = ([], ap (λ (l : List Report). map report l ++ []) (none-due (st .due) (cc (run-ended p i st))), refl)
+is-bench p [] i st n e t = ([], ap (λ (l : List Report). map report l ++ []) (none-due (st .due) (cc (run-ended p i st))), rw (is-true (isComplete (st .timers .arming)) t))
   where
     none-due : (l : List Report) → length l ≡ 0 → [] ≡ l
     none-due [] q = refl
     none-due (d ∷ l) q = absurd (omega arith)
-is-bench p (call k ∷ rs) i st n e = let c = run-clean p i (call k) rs st n 0 e in is-bench-call p st rs k (effect p (call k) st) (c .0) (is-bench p rs (suc i) (effect p (call k) st) n (c .1))
-is-bench p (report d ∷ rs) i st n e = let c = run-clean p i (report d) rs st n 0 e in is-bench-report p st rs d (c .0) (is-bench p rs (suc i) (deliver d st) n (c .1))
+is-bench p (call k ∷ rs) i st n e t = let c = run-clean p i (call k) rs st n 0 e in is-bench-call p st rs k (effect p (call k) st) (c .0) (is-bench p rs (suc i) (effect p (call k) st) n (c .1) t)
+is-bench p (report d ∷ rs) i st n e t = let c = run-clean p i (report d) rs st n 0 e in is-bench-report p st rs d (c .0) (is-bench p rs (suc i) (deliver d st) n (c .1) t)
 
--- Every clean list with none due is the bench's list of its own calls.
-pub clean-is-bench : (p : Plan) (rs : List Record) (n : ℕ) → judge p rs ≡ clean n 0 → bench p (callsOf rs) ≡ some rs
+-- Every clean list with none due and no arming in progress is the bench's list of its own calls.
+pub clean-is-bench : (p : Plan) (rs : List Record) (n : ℕ) → judge p rs ≡ clean n 0 → Complete p rs → bench p (callsOf rs) ≡ some rs
 unfolding bench judge
-clean-is-bench p rs n e = let b = is-bench p rs 0 (start p) n e in b .2 ∙ ap {B = Option (List Record)} some (sym (b .1))
+clean-is-bench p rs n e t = let b = is-bench p rs 0 (start p) n e (subst (λ (s : State). T (isComplete (s .timers .arming))) (sym (ending-after p rs)) t) in b .2 ∙ ap {B = Option (List Record)} some (sym (b .1))

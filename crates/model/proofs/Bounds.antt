@@ -1,28 +1,29 @@
--- How long the machine's lists get: each thread once in the queue and in the waits, each section held once, at most T + 1 reports due.
+-- How long the machine's lists get: each thread once in the queue and in the waits, each section held once, at most T + 9 reports due.
 use mathlib.Core.Path.{_≡_, refl, ap, sym, subst, _∙_}
 use mathlib.Core.Logic.{_⊎_, inl, inr, _≢_}
 use mathlib.Core.Bool.{Bool, true, false, cond, not, _&&_}
 use mathlib.Core.List.{List, [], _∷_, _++_, map, tail, append-assoc, append-nil, List·Memᴰ as Mem, List·Memᴰ·tail as there, List·Memᴰ·cases-cons as cases-cons, List·Memᴰ·append-cases as append-cases, List·Memᴰ·eq-of-singleton as single, Memᴰ·of-map as of-map}
 use mathlib.Core.Option.{Option, none, some}
-use Prim.Native.Nat.{ℕ, zero, suc, _+_, _^_, _≤_, _<_}
+use Prim.Native.Nat.{ℕ, zero, suc, _+_, _^_, _≤_, _<_, min}
 use native.Mathlib.Omega.{arith}
-use native.Mathlib.Nat.{div-eq-of-lt}
-use lib.Dec.{T, ltb, leb, eqb, ltb→lt, lt→ltb, nltb→le}
+use native.Mathlib.Nat.{div-eq-of-lt, min-le-right}
+use lib.Dec.{T, ltb, leb, eqb, le→leb, ltb→lt, lt→ltb, nltb→le}
 use lib.ListN.{length, getD, length-append, length-map}
 use lib.Pow.{pow-pos, pow-mono}
 use Rattle.model.specs.Searches.{_▷_, all, upTo, same}
 use Rattle.model.specs.Plan.{Plan, threads, bit, mayTake, validPlan}
-use Rattle.model.specs.Records.{Call, Report, Ready, Switch, Won, Lost, Yield, Record, call, report, named, isThread, allowedCall, allowed}
+use Rattle.model.specs.Records.{timerCount, TimerCall, Arm, Start, Period, Cancel, Call, Report, Ready, Switch, Won, Lost, Yield, Expire, Late, Record, call, report, isThread, allowedCall, allowedReport, allowed}
+use Rattle.model.specs.Timers.{slot, startGiven, lost, lateDue, expiresAt, expired}
 use Rattle.model.specs.State.{Condition, ready, waiting, Hold, State, condition, lastReported, owe}
 use Rattle.model.specs.Priorities.{chosen}
 use Rattle.model.specs.Calls.{sleepsUntil, sleepers, tick, switch, perform}
 use Rattle.model.specs.Rules.{questions}
 use Rattle.model.specs.Runs.{effect}
 use Rattle.model.proofs.Tests.{split, and-left, and-right}
-use Rattle.model.proofs.Searches.{Pairwise, pairwise-filter, Distinct, upTo-distinct, pigeonhole}
+use Rattle.model.proofs.Searches.{filtered, Pairwise, pairwise-filter, Distinct, upTo-at, upTo-distinct, pigeonhole}
 use Rattle.model.proofs.Invariant.{tag, OtherSection, Agree, SoundState}
 use Rattle.model.proofs.Agreement.{inside}
-use Rattle.model.proofs.Performed.{Caller, Performed, created, delayed, kept, yielded, ended, won, lost, freed, passed, refused, ticked, AllYes, answered, idle, performed}
+use Rattle.model.proofs.Performed.{Caller, Performed, created, delayed, kept, yielded, ended, won, lost as lost', freed, passed, refused, ticked, timed, AllYes, answered, idle, performed}
 use Rattle.model.proofs.Kept.{caller-queued, sleeper, performed-sound}
 use Rattle.model.proofs.Reached.{Reached, begin, next, reached-invariant}
 
@@ -105,9 +106,9 @@ module _ (p : Plan) where
   adds-none : {n : ℕ} {l : List Report} → Adds p n l l
   adds-none {l = l} = record { new = []; joined = sym (append-nil l); few = omega arith; known = λ d m. elim m [ ] }
 
-  -- one report, of thread t
-  adds-one : {n : ℕ} {l : List Report} (d : Report) (t : ℕ) → named d ≡ some t → t < threads p → 0 < n → Adds p n l (l ++ d ∷ [])
-  adds-one d t e h i = record { new = d ∷ []; joined = refl; few = i; known = λ r m. rw (single m, e) (lt→ltb t (threads p) h) }
+  -- one report
+  adds-one : {n : ℕ} {l : List Report} (d : Report) → T (allowedReport p d) → 0 < n → Adds p n l (l ++ d ∷ [])
+  adds-one d a i = record { new = d ∷ []; joined = refl; few = i; known = λ r m. rw (single m) a }
 
   -- first some, then some more
   adds-both : {n m : ℕ} {a b c : List Report} → Adds p n a b → Adds p m b c → Adds p (n + m) a c
@@ -128,7 +129,7 @@ module _ (p : Plan) (st : State) (c : SoundState p st) where
   caller-below {x} e = queued-below p (c .agree) x (caller-queued p st c e)
 
   -- an heir, who is not the caller: two reports
-  adds-two : (x w : ℕ) → Caller p st x → Mem w (st .waits) → Adds p (threads p) (st .due) (st .due ++ Won w ∷ Ready w ∷ [])
+  adds-two : (x w : ℕ) → Caller p st x → Mem w (st .waits) → Adds p (threads p + timerCount) (st .due) (st .due ++ Won w ∷ Ready w ∷ [])
   adds-two x w e m = record { new = Won w ∷ Ready w ∷ []; joined = refl; few = omega (arith, caller-below e, h, other); known = λ d n. known d (cases-cons n) }
     where
       h : w < threads p
@@ -141,10 +142,16 @@ module _ (p : Plan) (st : State) (c : SoundState p st) where
       known d (inl q) = rw q (lt→ltb w (threads p) h)
       known d (inr n) = rw (single n) (lt→ltb w (threads p) h)
 
-  -- each thread wakes once at most
-  tick-adds : Adds p (threads p) (st .due) (tick st .due)
+  -- each timer expires and each thread wakes once at most
+  tick-adds : Adds p (threads p + timerCount) (st .due) (tick st .due)
   unfolding tick
-  tick-adds = record { new = map Ready woken; joined = refl; few = omega (arith, length-map woken Ready, pigeonhole (threads p) woken once below); known = known }
+  tick-adds =
+      record {
+        new = map Expire ended ++ map Ready woken;
+        joined = refl;
+        few = omega (arith, length-append (map Expire ended) (map Ready woken), length-map woken Ready, length-map ended Expire, pigeonhole (threads p) woken once below, pigeonhole timerCount ended endOnce endBelow);
+        known = λ d m. known d (append-cases (map Expire ended) m);
+      }
     where
       n : ℕ
       n = suc (st .tickNumber)
@@ -152,28 +159,46 @@ module _ (p : Plan) (st : State) (c : SoundState p st) where
       woken : List ℕ
       woken = sleepers n st
 
+      ended : List ℕ
+      ended = expired n (st .timers)
+
+      endOnce : Distinct ended
+      endOnce = pairwise-filter _ (λ i. expiresAt n (slot (st .timers) i)) (upTo timerCount) (upTo-distinct timerCount)
+
+      endBelow : (i : ℕ) → Mem i ended → i < timerCount
+      endBelow i m = upTo-at timerCount (filtered (λ i. expiresAt n (slot (st .timers) i)) (upTo timerCount) m .0)
+
       once : Distinct woken
       once = pairwise-filter _ (λ u. sleepsUntil n (condition st u)) (upTo (length (st .conditions))) (upTo-distinct (length (st .conditions)))
 
       below : (t : ℕ) → Mem t woken → t < threads p
       below t m = omega (arith, c .agree .sized, sleeper n st t m .0)
 
-      known : (d : Report) → Mem d (map Ready woken) → T (allowed p (report d))
-      known d m = let r = of-map Ready woken m in rw (← (r .2)) (lt→ltb (r .0) (threads p) (below (r .0) (r .1)))
+      known : (d : Report) → Mem d (map Expire ended) ⊎ Mem d (map Ready woken) → T (allowed p (report d))
+      known d (inl m) = let r = of-map Expire ended m in rw (← (r .2)) (lt→ltb (r .0) timerCount (endBelow (r .0) (r .1)))
+      known d (inr m) = let r = of-map Ready woken m in rw (← (r .2)) (lt→ltb (r .0) (threads p) (below (r .0) (r .1)))
 
-  -- a call makes at most T reports before the Switch
-  call-adds : {k : Call} {mid : State} → T (allowedCall p k) → Performed p st k mid → Adds p (threads p) (st .due) (mid .due)
-  call-adds a (created {t = t} d) = let h = ltb→lt t (threads p) a in adds-one p (Ready t) t refl h (omega arith)
+  -- Period owes one report, the other timer calls none
+  timing-adds : (k : TimerCall) → Adds p (threads p + timerCount) (st .due) (st .due ++ lateDue k (st .tickNumber) (st .timers))
+  timing-adds (Arm i) = record { new = []; joined = refl; few = omega arith; known = λ d m. elim m [ ] }
+  timing-adds (Start s) = record { new = []; joined = refl; few = omega arith; known = λ d m. elim m [ ] }
+  timing-adds (Period n) = let j = lost (st .tickNumber) (startGiven (st .timers .arming)) n in adds-one p (Late (min j 65535)) (le→leb (min j 65535) 65535 (min-le-right j 65535)) (omega arith)
+  timing-adds (Cancel i) = record { new = []; joined = refl; few = omega arith; known = λ d m. elim m [ ] }
+
+  -- a call makes at most T + 8 reports before the Switch
+  call-adds : {k : Call} {mid : State} → T (allowedCall p k) → Performed p st k mid → Adds p (threads p + timerCount) (st .due) (mid .due)
+  call-adds a (created {t = t} d) = adds-one p (Ready t) a (omega arith)
   call-adds a (delayed x e f) = adds-none p
   call-adds a (kept x e) = adds-none p
-  call-adds a (yielded x e) = let h = caller-below e in adds-one p (Yield x) x refl h (omega arith)
+  call-adds a (yielded x e) = adds-one p (Yield x) (lt→ltb x (threads p) (caller-below e)) (omega arith)
   call-adds a (ended x e f) = adds-none p
-  call-adds a (won x e need clear fresh) = let h = caller-below e in adds-one p (Won x) x refl h (omega arith)
-  call-adds a (lost x e need bar free) = let h = caller-below e in adds-one p (Lost x) x refl h (omega arith)
+  call-adds a (won x e need clear fresh) = adds-one p (Won x) (lt→ltb x (threads p) (caller-below e)) (omega arith)
+  call-adds a (lost' x e need bar free) = adds-one p (Lost x) (lt→ltb x (threads p) (caller-below e)) (omega arith)
   call-adds a (freed x e l none-waits) = adds-none p
   call-adds a (passed x w z e l g q clear) = adds-two x w e (g .0)
-  call-adds a (refused x w e l g b) = let h = waiting-below p (c .agree) w (g .0) in adds-one p (Lost w) w refl h (omega arith)
+  call-adds a (refused x w e l g b) = adds-one p (Lost w) (lt→ltb w (threads p) (waiting-below p (c .agree) w (g .0))) (omega arith)
   call-adds a ticked = tick-adds
+  call-adds a (timed {k = k} x e) = timing-adds k
 
   -- and the Switch is one more at most
   switch-adds : Adds p 1 (st .due) (switch p st .due)
@@ -188,14 +213,14 @@ module _ (p : Plan) (st : State) (c : SoundState p st) where
       go true = adds-none p
       go false = record { new = Switch (chosen p st) ∷ []; joined = refl; few = omega arith; known = λ d m. rw (single m) (known (chosen p st) refl) }
 
--- at most T + 1 reports are due, and each is allowed
+-- at most T + 9 reports are due, and each is allowed
 record DueFits (p : Plan) (due : List Report) : Type 0 where
-  few : length due ≤ suc (threads p)
+  few : length due ≤ threads p + 9
   known : (d : Report) → Mem d due → T (allowed p (report d))
 
 module _ (p : Plan) where
   -- a call comes with nothing due, so what is then due is what it made
-  fits-call : {before after : List Report} → before ≡ [] → Adds p (threads p + 1) before after → DueFits p after
+  fits-call : {before after : List Report} → before ≡ [] → Adds p (threads p + timerCount + 1) before after → DueFits p after
   fits-call {after = after} q g = record { few = omega (arith, ap length e, g .few); known = λ d m. g .known d (subst (Mem d) e m) }
     where
       e : after ≡ g .new
@@ -218,10 +243,10 @@ module _ (p : Plan) where
       let q = answered p before r st e in
       subst (λ (s : State). DueFits p (s .due)) (q .1) (fits-after before (reached-invariant p before b .sound) r a (q .0) (due-fit before b))
 
--- At most T + 1 reports are ever due.
-pub due-fits : (p : Plan) (st : State) → Reached p st → length (st .due) ≤ suc (threads p)
+-- At most T + 9 reports are ever due.
+pub due-fits : (p : Plan) (st : State) → Reached p st → length (st .due) ≤ threads p + 9
 due-fits p st r = due-fit p st r .few
 
--- Every report due names a thread of the plan, or is a Switch to nobody.
+-- Every report due has an operand that question 8 allows.
 pub due-named : (p : Plan) (st : State) → Reached p st → (d : Report) → Mem d (st .due) → T (allowed p (report d))
 due-named p st r d m = due-fit p st r .known d m

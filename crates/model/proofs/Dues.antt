@@ -9,7 +9,8 @@ use native.Mathlib.Omega.{arith}
 use lib.Dec.{T}
 use Rattle.model.specs.Searches.{_▷_, all, same}
 use Rattle.model.specs.Plan.{Plan}
-use Rattle.model.specs.Records.{Call, Create, Delay, Relinquish, End, Take, Give, Tick, Report, Ready, Switch, Won, Lost, Yield, Record, call, report, reportKind, isTick}
+use Rattle.model.specs.Records.{Call, Create, Delay, Relinquish, End, Take, Give, Tick, Timing, TimerCall, Arm, Start, Period, Cancel, Report, Ready, Switch, Won, Lost, Yield, Expire, Late, Record, call, report, reportKind, isTick}
+use Rattle.model.specs.Timers.{Timers, lateDue, expired}
 use Rattle.model.specs.State.{ready, waiting, State, condition, lastReported, owe}
 use Rattle.model.specs.Priorities.{chosen}
 use Rattle.model.specs.Calls.{sleepers, tick}
@@ -17,10 +18,10 @@ use Rattle.model.specs.Words.{switchOf, tickOf}
 use Rattle.model.proofs.Searches.{all-at, all-append}
 use Rattle.model.proofs.Invariant.{SoundState}
 use Rattle.model.proofs.Agreement.{inside, set-own}
-use Rattle.model.proofs.Performed.{created, delayed, kept, yielded, ended, won, lost, freed, passed, refused, ticked, switchDue, Moved, byCall, byReport}
+use Rattle.model.proofs.Performed.{created, delayed, kept, yielded, ended, won, lost, freed, passed, refused, ticked, timed, switchDue, Moved, byCall, byReport, nothing-due}
 use Rattle.model.proofs.Turns as turns
 use Rattle.model.proofs.Turns.{Turn, caller-ready, turn}
-use Rattle.model.proofs.Holdings.{callNumber, call-numbered, callOf, nothing-due}
+use Rattle.model.proofs.Holdings.{callNumber, call-numbered, callOf}
 
 -- a report that is neither Won nor Lost
 abbrev pub plain : Report → Bool
@@ -29,10 +30,22 @@ plain (Switch w) = true
 plain (Won t) = false
 plain (Lost t) = false
 plain (Yield t) = true
+plain (Expire i) = true
+plain (Late n) = true
 
 plain-ready : (ts : List ℕ) → T (all plain (map Ready ts))
 plain-ready [] = tt
 plain-ready (t ∷ ts) = plain-ready ts
+
+plain-expire : (is : List ℕ) → T (all plain (map Expire is))
+plain-expire [] = tt
+plain-expire (i ∷ is) = plain-expire is
+
+plain-late : (k : TimerCall) (n : ℕ) (ts : Timers) → T (all plain (lateDue k n ts))
+plain-late (Arm i) n ts = tt
+plain-late (Start s) n ts = tt
+plain-late (Period m) n ts = tt
+plain-late (Cancel i) n ts = tt
 
 plain-switch : (p : Plan) (st : State) → T (all plain (switchDue p st))
 plain-switch p st = go (same (lastReported st) (chosen p st))
@@ -59,6 +72,8 @@ threadNamed (Switch w) = 0
 threadNamed (Won t) = t
 threadNamed (Lost t) = t
 threadNamed (Yield t) = t
+threadNamed (Expire i) = 0
+threadNamed (Late n) = 0
 
 not-lost : (w t : ℕ) → Won w ≡ Lost t → ⊥
 not-lost w t e = omega (arith, ap reportKind e)
@@ -94,7 +109,11 @@ module _ (p : Plan) (st : State) (c : SoundState p st) where
   grows (byCall mid q (passed {s = s} x w z e l g i clear)) =
       decided s (Give s) mid (Won w) (Ready w ∷ []) (inr refl) (nothing-due (Give s) tt q) tt refl (λ u j. set-own (st .conditions) w u ready (inside (st .conditions) w (waiting z) i (omega arith)) (ap threadNamed j))
   grows (byCall mid q (refused {s = s} x w e l g b)) = decided s (Give s) mid (Lost w) [] (inr refl) (nothing-due (Give s) tt q) tt refl (λ u j. absurd (not-lost u w j))
-  grows (byCall mid q ticked) = let up = sleepers (suc (st .tickNumber)) st in plainly Tick mid (map Ready up) q (plain-ready up) refl
+  grows (byCall mid q ticked) =
+      let up = sleepers (suc (st .tickNumber)) st in
+      let ex = expired (suc (st .tickNumber)) (st .timers) in
+      plainly Tick mid (map Expire ex ++ map Ready up) q (all-append plain (map Expire ex) (map Ready up) (plain-expire ex) (plain-ready up)) refl
+  grows (byCall mid q (timed {k = k} x e)) = plainly (Timing k) mid (lateDue k (st .tickNumber) (st .timers)) q (plain-late k (st .tickNumber) (st .timers)) refl
   grows (byReport {r = r} ds q) = given r refl q
 
   -- a Tick leaves a ready thread ready
@@ -146,6 +165,7 @@ module _ (p : Plan) (st : State) (c : SoundState p st) where
   tick-counts (byCall mid q (passed x w z e l g i clear)) = omega arith
   tick-counts (byCall mid q (refused x w e l g b)) = omega arith
   tick-counts (byCall mid q ticked) = omega arith
+  tick-counts (byCall mid q (timed x e)) = omega arith
   tick-counts (byReport ds q) = omega arith
 
   -- the thread reported is that of the latest Switch given
@@ -162,4 +182,5 @@ module _ (p : Plan) (st : State) (c : SoundState p st) where
   switch-given (byCall mid q (passed x w z e l g i clear)) = refl
   switch-given (byCall mid q (refused x w e l g b)) = refl
   switch-given (byCall mid q ticked) = refl
+  switch-given (byCall mid q (timed x e)) = refl
   switch-given (byReport ds q) = refl

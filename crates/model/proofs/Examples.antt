@@ -4,4 +4,5 @@ pub mod Judged
 pub mod RunA
 pub mod TwoLower
 pub mod Wake
+pub mod Timing
 pub mod Unclean

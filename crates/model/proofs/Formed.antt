@@ -9,9 +9,10 @@ use lib.Dec.{T, eqb, leb, ltb, leb→le, le→leb, ltb→lt, lt→ltb, eqb→eq}
 use lib.ListN.{length, getD}
 use Rattle.model.specs.Searches.{all, upTo}
 use Rattle.model.specs.Plan.{Plan, threads, validPlan}
-use Rattle.model.specs.Records.{Report, report, isThread, allowed}
+use Rattle.model.specs.Records.{timerCount, Report, report, isThread, allowed}
+use Rattle.model.specs.Timers.{Timer, Arming, noArming, afterArm, afterStart, slot, timerGiven}
 use Rattle.model.specs.State.{Condition, dormant, ready, asleep, waiting, Hold, State, condition}
-use Rattle.model.specs.Formed.{lastTick, lastWake, conditionInRange, areThreads, holdInRange, numbersInRange, times, heldOnce, inQueue, inWaits, standsOnce, allStandOnce, dueInRange, formed}
+use Rattle.model.specs.Formed.{lastTick, lastWake, lastExpiry, conditionInRange, areThreads, holdInRange, numbersInRange, armingInRange, timerInRange, timersInRange, times, heldOnce, inQueue, inWaits, standsOnce, allStandOnce, dueInRange, formed}
 use Rattle.model.proofs.Tests.{and-left, and-right, and-both, eq-test}
 use Rattle.model.proofs.Searches.{all-at, all-in, Pairwise, Distinct, in-upTo}
 use Rattle.model.proofs.Counting.{counted, found, once-apart, apart-once}
@@ -30,7 +31,10 @@ pub record WellFormed (p : Plan) (st : State) : Type 0 where
   pub sleeps : (t n : ℕ) → condition st t ≡ asleep n → n ≤ lastWake
   pub tick : st .tickNumber ≤ lastTick
   pub reported' : (t : ℕ) → st .reported ≡ some t → t < threads p
-  pub few : length (st .due) ≤ threads p + 1
+  -- timers are 0 to 7, and expire by the last tick number at which they can
+  pub arms : timerGiven (st .timers .arming) < timerCount
+  pub expires : (i : ℕ) (t : Timer) → slot (st .timers) i ≡ some t → t .expiry ≤ lastExpiry
+  pub few : length (st .due) ≤ threads p + 9
   pub known : (d : Report) → Mem d (st .due) → T (allowed p (report d))
 
 -- which condition stands once in the queue, and which in the waits
@@ -110,25 +114,38 @@ is-thread : (p : Plan) (o : Option ℕ) → T (isThread p o) → (t : ℕ) → o
 is-thread p none a t e = absurd (Option·none-ne-some t e)
 is-thread p (some u) a t e = omega (arith, ltb→lt u (threads p) a, Option·some-injective u t e)
 
+-- an arming is of one of the timers
+arming-in : (a : Arming) → T (armingInRange a) → timerGiven a < timerCount
+arming-in noArming t = omega arith
+arming-in (afterArm i) t = ltb→lt i timerCount t
+arming-in (afterStart i s) t = ltb→lt i timerCount t
+
+timer-in : (os : List (Option Timer)) (i : ℕ) (t : Timer) → T (all timerInRange os) → getD os i none ≡ some t → t .expiry ≤ lastExpiry
+timer-in [] i t a e = absurd (Option·none-ne-some t e)
+timer-in (o ∷ os) zero t a e = leb→le (t .expiry) lastExpiry (subst (λ (x : Option Timer). T (timerInRange x)) e (and-left (timerInRange o) (all timerInRange os) a))
+timer-in (o ∷ os) (suc i) t a e = timer-in os i t (and-right (timerInRange o) (all timerInRange os) a) e
+
 -- the questions, in the order in which they are asked
 pub well-formed : (p : Plan) (st : State) → length (st .conditions) ≡ threads p → T (formed p st) → WellFormed p st
 unfolding formed
 well-formed p st sized t =
-    let q = five (validPlan p) (numbersInRange p st) (heldOnce (p .sections) (st .holds)) (allStandOnce p st) (dueInRange p (st .due)) t in
+    let q = six (validPlan p) (numbersInRange p st) (timersInRange (st .timers)) (heldOnce (p .sections) (st .holds)) (allStandOnce p st) (dueInRange p (st .due)) t in
     let n = six (leb (st .tickNumber) lastTick) (isThread p (st .reported)) (all (conditionInRange (p .sections)) (st .conditions)) (areThreads (threads p) (st .queue)) (areThreads (threads p) (st .waits)) (all (holdInRange (threads p) (p .sections)) (st .holds)) (q .1) in
     let held' : ((h : Hold) → Mem h (st .holds) → T (holdInRange (threads p) (p .sections) h)) = λ h i. all-at (holdInRange (threads p) (p .sections)) (st .holds) (n .5) i in
     let section : ((h : Hold) → Mem h (st .holds) → h .section < p .sections) = λ h i. ltb→lt (h .section) (p .sections) (and-left (ltb (h .section) (p .sections)) (ltb (h .thread) (threads p)) (held' h i)) in
     record {
       valid = q .0;
-      agree = agreed p st sized (n .3) (n .4) (q .3);
-      heldOnce' = once-apart (λ (h : Hold). h .section) (st .holds) (λ h i. leb→le _ 1 (all-at (λ s. leb (times (λ (h : Hold). eqb (h .section) s) (st .holds)) 1) (upTo (p .sections)) (q .2) (in-upTo (p .sections) (h .section) (section h i))));
+      agree = agreed p st sized (n .3) (n .4) (q .4);
+      heldOnce' = once-apart (λ (h : Hold). h .section) (st .holds) (λ h i. leb→le _ 1 (all-at (λ s. leb (times (λ (h : Hold). eqb (h .section) s) (st .holds)) 1) (upTo (p .sections)) (q .3) (in-upTo (p .sections) (h .section) (section h i))));
       held = λ h i. (section h i, ltb→lt (h .thread) (threads p) (and-right (ltb (h .section) (p .sections)) (ltb (h .thread) (threads p)) (held' h i)));
       wants = λ u s e. ltb→lt s (p .sections) (condition-passes (conditionInRange (p .sections)) (st .conditions) u (waiting s) (n .2) e (omega arith));
       sleeps = λ u m e. leb→le m lastWake (condition-passes (conditionInRange (p .sections)) (st .conditions) u (asleep m) (n .2) e (omega arith));
       tick = leb→le (st .tickNumber) lastTick (n .0);
       reported' = is-thread p (st .reported) (n .1);
-      few = leb→le (length (st .due)) (threads p + 1) (and-left (leb (length (st .due)) (threads p + 1)) (all (λ d. allowed p (report d)) (st .due)) (q .4));
-      known = λ d i. all-at (λ d. allowed p (report d)) (st .due) (and-right (leb (length (st .due)) (threads p + 1)) (all (λ d. allowed p (report d)) (st .due)) (q .4)) i;
+      arms = arming-in (st .timers .arming) (and-left (armingInRange (st .timers .arming)) (all timerInRange (st .timers .slots)) (q .2));
+      expires = λ i t e. timer-in (st .timers .slots) i t (and-right (armingInRange (st .timers .arming)) (all timerInRange (st .timers .slots)) (q .2)) e;
+      few = leb→le (length (st .due)) (threads p + 9) (and-left (leb (length (st .due)) (threads p + 9)) (all (λ d. allowed p (report d)) (st .due)) (q .5));
+      known = λ d i. all-at (λ d. allowed p (report d)) (st .due) (and-right (leb (length (st .due)) (threads p + 9)) (all (λ d. allowed p (report d)) (st .due)) (q .5)) i;
     }
 
 -- and back: a state with these facts has the answer Yes to each
@@ -187,12 +204,29 @@ numbers p st w =
     (all-in (λ t. ltb t (threads p)) (st .waits) (λ t i. lt→ltb t (threads p) (waiting-below p (w .agree) t i)))
     (all-in (holdInRange (threads p) (p .sections)) (st .holds) (λ h i. and-both (ltb (h .section) (p .sections)) (ltb (h .thread) (threads p)) (lt→ltb (h .section) (p .sections) (w .held h i .0)) (lt→ltb (h .thread) (threads p) (w .held h i .1))))
 
+pub in-arming : (a : Arming) → timerGiven a < timerCount → T (armingInRange a)
+in-arming noArming h = tt
+in-arming (afterArm i) h = lt→ltb i timerCount h
+in-arming (afterStart i s) h = lt→ltb i timerCount h
+
+in-timers : (os : List (Option Timer)) → ((i : ℕ) (t : Timer) → getD os i none ≡ some t → t .expiry ≤ lastExpiry) → T (all timerInRange os)
+in-timers [] h = tt
+in-timers (o ∷ os) h = and-both (timerInRange o) (all timerInRange os) (first o (h zero)) (in-timers os (λ i. h (suc i)))
+  where
+    first : (o : Option Timer) → ((t : Timer) → o ≡ some t → t .expiry ≤ lastExpiry) → T (timerInRange o)
+    first none k = tt
+    first (some t) k = le→leb (t .expiry) lastExpiry (k t refl)
+
+timers : (p : Plan) (st : State) → WellFormed p st → T (timersInRange (st .timers))
+timers p st w = and-both (armingInRange (st .timers .arming)) (all timerInRange (st .timers .slots)) (in-arming (st .timers .arming) (w .arms)) (in-timers (st .timers .slots) (w .expires))
+
 pub passes-all : (p : Plan) (st : State) → WellFormed p st → T (formed p st)
 unfolding formed
 passes-all p st w =
-    both-five (validPlan p) (numbersInRange p st) (heldOnce (p .sections) (st .holds)) (allStandOnce p st) (dueInRange p (st .due))
+    both-six (validPlan p) (numbersInRange p st) (timersInRange (st .timers)) (heldOnce (p .sections) (st .holds)) (allStandOnce p st) (dueInRange p (st .due))
     (w .valid)
     (numbers p st w)
+    (timers p st w)
     (all-in (λ s. leb (times (λ (h : Hold). eqb (h .section) s) (st .holds)) 1) (upTo (p .sections)) (λ s i. le→leb (times (λ (h : Hold). eqb (h .section) s) (st .holds)) 1 (apart-once (λ (h : Hold). h .section) (st .holds) (w .heldOnce') s)))
     (all-in (λ t. standsOnce (st .queue) (st .waits) (condition st t) t) (upTo (threads p)) (λ t i. stands-once p st (w .agree) t))
-    (and-both (leb (length (st .due)) (threads p + 1)) (all (λ d. allowed p (report d)) (st .due)) (le→leb (length (st .due)) (threads p + 1) (w .few)) (all-in (λ d. allowed p (report d)) (st .due) (w .known)))
+    (and-both (leb (length (st .due)) (threads p + 9)) (all (λ d. allowed p (report d)) (st .due)) (le→leb (length (st .due)) (threads p + 9) (w .few)) (all-in (λ d. allowed p (report d)) (st .due) (w .known)))

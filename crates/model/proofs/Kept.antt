@@ -20,7 +20,7 @@ use Rattle.model.proofs.Searches.{filtered, in-filter, pairwise-filter,
 use Rattle.model.proofs.Invariant.{tag, SoundState, Invariant}
 use Rattle.model.proofs.Nesting.{chosen-is}
 use Rattle.model.proofs.Soundness.{Resting, leaves, yields, loses, gains, ends, inherits, arrive-all}
-use Rattle.model.proofs.Performed.{Caller, Performed, created, delayed, kept, yielded, ended, won, lost, freed, passed, refused, ticked, switchDue, Moved, byCall, byReport, moves}
+use Rattle.model.proofs.Performed.{Caller, Performed, created, delayed, kept, yielded, ended, won, lost, freed, passed, refused, ticked, timed, switchDue, Moved, byCall, byReport, moves}
 
 -- who sleeps until this tick number
 
@@ -68,6 +68,7 @@ module _ (p : Plan) (st : State) (c : SoundState p st) where
   performed-sound a (passed {s = s} x w z e l g q clear) = inherits p c (λ (h : Hold). not (isHold s x h)) w z (g .0) q (g .1) clear
   performed-sound a (refused {s = s} x w e l g b) = ends p c (λ (h : Hold). not (isHold s x h)) (λ u m. (b .0, b .1, omega (arith, g .1 u m, b .2)))
   performed-sound a ticked = tick-sound
+  performed-sound a (timed x e) = c
 
 pub latestSwitch-append : (w : Option ℕ) (a b : List Report) → latestSwitch w (a ++ b) ≡ latestSwitch (latestSwitch w a) b
 latestSwitch-append w [] b = refl

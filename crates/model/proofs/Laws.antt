@@ -6,11 +6,15 @@ pub use Rattle.model.proofs.Kept.{start-has, step-keeps}
 -- conditions and lists that agree; conditions told apart; no section held twice; who sleeps until a tick number
 pub use Rattle.model.proofs.Invariant.{Agree, tag, OtherSection}
 pub use Rattle.model.proofs.Kept.{sleeper}
--- how long the machine's lists get; whom the reports due name
+-- how long the machine's lists get; what the reports due name
 pub use Rattle.model.proofs.Bounds.{queued-below, waiting-below, queue-fits, waits-fit, mayTake-below, sections-fit, holds-fit, due-fits, due-named}
 -- answer 12: what a well-formed state tells, and that every state reached is one
-pub use Rattle.model.proofs.Formed.{WellFormed, well-formed, passes-all}
+pub use Rattle.model.proofs.Formed.{WellFormed, well-formed, in-arming, passes-all}
 pub use Rattle.model.proofs.Lent.{reached-formed}
+-- the timers: the count lost, where they expire, and that nothing is due inside an arming
+pub use Rattle.model.proofs.Timers.{IsLeast, lost-none, lost-alarm, lost-least, Ahead, AheadIfArmed, armed-soon, TimersFit, timers-fit, Settled, settled}
+-- how many threads and sections a plan has; rule 30 compares whole operands
+pub use Rattle.model.proofs.Operands.{counts-fit, whole-operands}
 -- the chosen thread; nesting of holds; the owner is the last holder; a holder never loses a Take; what a Give ends and leaves
 pub use Rattle.model.proofs.Nesting.{chosen-is, holds-nest, owner-is-last-holder, chosen-below, holder-never-loses}
 pub use Rattle.model.proofs.Give.{last-held, give-ends-latest-hold, no-give-leaves-a-waiter-above}
@@ -18,11 +22,11 @@ pub use Rattle.model.proofs.Give.{last-held, give-ends-latest-hold, no-
 pub use Rattle.model.proofs.Ceiling.{ceiling-ge, ceiling-attained}
 -- questions that all have the answer Yes, and what some of them say
 pub use Rattle.model.proofs.Performed.{AllYes, all-yes, somebody, dormant-is}
--- one step: where a run begins, how many Ticks a step counts, which numbers broken rules have, how many threads and sections a plan has
-pub use Rattle.model.proofs.Steps.{judge-run, start-nobody, counts-fit, tick-at-most, broken-rule}
+-- one step: where a run begins, how many Ticks a step counts, which numbers broken rules have
+pub use Rattle.model.proofs.Steps.{judge-run, start-nobody, tick-at-most, broken-rule}
 -- the verdict of a list of records, and of its first records
 pub use Rattle.model.proofs.Prefixes.{run-ended, run-moved, run-broke, clean-steps, clean-count, breach-prefix, clean-before-breach, clean-reached}
--- the bench kernel's list of records, call by call; it is clean with nothing due, and every such list is the bench kernel's
+-- the bench kernel's list of records, call by call; it is clean with nothing due and no arming in progress, and every such list is the bench kernel's
 pub use Rattle.model.proofs.Bench.{bench-begins, bench-ended, bench-moved, bench-broke, settled-reached, settled-chosen, given-none, bench-clean, clean-is-bench}
 -- demand 3
 pub use Rattle.model.proofs.Theorem.{promise, promise-before-breach}

@@ -1,19 +1,21 @@
 -- Every state that a run reaches is well formed, so none of them has the answer 12 when it is lent.
 use mathlib.Core.Path.{_≡_, ap, sym, subst, _∙_}
-use mathlib.Core.Option.{Option, some, Option·none-ne-some}
+use mathlib.Core.Option.{Option, none, some, Option·none-ne-some, Option·some-injective}
 use Prim.Native.Nat.{ℕ, _+_, _≤_, _<_}
 use native.Mathlib.Omega.{arith}
 use lib.Dec.{T, leb, leb→le, ltb→lt}
 use Rattle.model.specs.Plan.{Plan, threads, validPlan}
-use Rattle.model.specs.Records.{Delay, Report, Ready, Switch, Won, Lost, Yield, Record, call, report, isThread, allowed}
+use Rattle.model.specs.Records.{Delay, Report, Ready, Switch, Won, Lost, Yield, Expire, Late, Record, call, report, isThread, allowed}
+use Rattle.model.specs.Timers.{Timer, slot}
 use Rattle.model.specs.State.{Condition, dormant, ready, asleep, waiting, State, condition, switchedTo}
 use Rattle.model.specs.Words.{switchOf}
-use Rattle.model.specs.Formed.{lastTick, formed}
+use Rattle.model.specs.Formed.{lastTick, lastExpiry, formed}
 use Rattle.model.proofs.Tests.{and-right}
 use Rattle.model.proofs.Invariant.{Invariant}
 use Rattle.model.proofs.Performed.{Moved, moves}
 use Rattle.model.proofs.Kept.{all-dormant}
 use Rattle.model.proofs.Reached.{Reached, begin, next, reached-invariant}
+use Rattle.model.proofs.Timers.{AheadIfArmed, timers-fit}
 use Rattle.model.proofs.Bounds.{queued-below, mayTake-below, due-fits, due-named}
 use Rattle.model.proofs.Formed.{WellFormed, passes-all}
 use Rattle.model.proofs.Turns as turns
@@ -65,6 +67,8 @@ module _ (p : Plan) where
       given (Won u) k i h = h i
       given (Lost u) k i h = h i
       given (Yield u) k i h = h i
+      given (Expire u) k i h = h i
+      given (Late u) k i h = h i
 
       go : (r : Record) → T (allowed p r) → switchOf (some r) (before .reported) ≡ some t → (before .reported ≡ some t → t < threads p) → t < threads p
       go (call k) x i h = h i
@@ -73,6 +77,7 @@ module _ (p : Plan) where
   reached-facts : T (validPlan p) → (st : State) → Reached p st → st .tickNumber ≤ lastTick → WellFormed p st
   reached-facts v st r k =
       let s = reached-invariant p st r .sound in
+      let f = timers-fit p st r in
       record {
         valid = v;
         agree = s .agree;
@@ -82,9 +87,15 @@ module _ (p : Plan) where
         sleeps = λ t n e. omega (arith, soon st r t, ap until e);
         tick = k;
         reported' = named-thread st r;
-        few = omega (arith, due-fits p st r);
+        arms = f .given;
+        expires = λ i t e. expiry (slot (st .timers) i) t (f .ahead i) e;
+        few = due-fits p st r;
         known = due-named p st r;
       }
+    where
+      expiry : (o : Option Timer) (t : Timer) → AheadIfArmed (st .tickNumber) o → o ≡ some t → t .expiry ≤ lastExpiry
+      expiry none t a e = absurd (Option·none-ne-some t e)
+      expiry (some u) t a e = omega (arith, a .soon, ap (λ (x : Timer). x .expiry) (Option·some-injective u t e))
 
 -- Up to the last tick number, a state that a run reaches is well formed.
 pub reached-formed : (p : Plan) → T (validPlan p) → (st : State) → Reached p st → st .tickNumber ≤ lastTick → T (formed p st)

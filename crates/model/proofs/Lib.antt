@@ -16,6 +16,8 @@ mod Soundness
 mod Performed
 mod Kept
 mod Reached
+mod Operands
+mod Timers
 mod Bounds
 mod Counting
 mod Formed

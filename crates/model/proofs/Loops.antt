@@ -1,15 +1,16 @@
 -- Laws of a loop that counts i up to n: what is done so far and the numbers that are left give the answer.
 use mathlib.Core.Path.{_≡_, refl, ap, sym, _∙_}
+use mathlib.Core.Logic.{_⊎_, inl, inr, _≢_}
 use mathlib.Core.Bool.{Bool, true, false, cond, _&&_}
 use mathlib.Core.List.{List, [], _∷_, _++_, map, append-assoc, append-nil}
 use Prim.Native.Nat.{ℕ, zero, suc, _+_, _-_, _≤_, _<_, max}
 use native.Mathlib.Numerals.{add-one}
 use native.Mathlib.Omega.{arith}
 use lib.Dec.{T}
-use lib.ListN.{length, getD, take, set, length-map, List·getD-eq-default}
-use lib.Seq.{take-suc-set}
+use lib.ListN.{length, getD, take, set, length-map, length-set, List·getD-eq-default}
+use lib.Seq.{take-suc-set, getD-set-same, getD-set-other, ext-getD}
 use Rattle.model.specs.Searches.{all, filter, greatest, countFrom, upTo}
-use Rattle.model.proofs.Tests.{is-true, from-true, and-left, and-right, and-both}
+use Rattle.model.proofs.Tests.{is-true, from-true, and-left, and-right, and-both, equal?}
 
 -- the numbers from i on that are below n
 abbrev pub left : (i n : ℕ) → List ℕ
@@ -143,3 +144,60 @@ module _ {A : Type 0} (g : ℕ → A) (n : ℕ) where
 
   pub unlisted : (i : ℕ) (d : A) → n ≤ i → getD (map g (upTo n)) i d ≡ d
   unlisted i d h = List·getD-eq-default (map g (upTo n)) d (omega (arith, length-listed))
+
+-- lists made by counting: with one more number, and where what they are made of agrees
+
+count-more : (i n : ℕ) → countFrom i (suc n) ≡ countFrom i n ++ ((i + n) ∷ [])
+count-more i zero = let z : i ≡ i + 0 = omega arith in ap (λ k. k ∷ []) z
+count-more i (suc n) =
+    let z : suc i + n ≡ i + suc n = omega arith in
+    ap (λ l. i ∷ l) (count-more (suc i) n ∙ ap (λ k. countFrom (suc i) n ++ (k ∷ [])) z)
+
+pub upTo-more : (n : ℕ) → upTo (n + 1) ≡ upTo n ++ (n ∷ [])
+upTo-more n = rw add-one (count-more 0 n ∙ ap (λ k. upTo n ++ (k ∷ [])) (omega arith))
+
+pub map-append : {A B : Type 0} (f : A → B) (l m : List A) → map f (l ++ m) ≡ map f l ++ map f m
+map-append f [] m = refl
+map-append f (a ∷ l) m = ap (λ k. f a ∷ k) (map-append f l m)
+
+module _ {A : Type 0} where
+  pub listed-more : (g : ℕ → A) (n : ℕ) → map g (upTo (n + 1)) ≡ map g (upTo n) ++ (g n ∷ [])
+  listed-more g n = ap (map g) (upTo-more n) ∙ map-append g (upTo n) (n ∷ [])
+
+  alike-from : (g h : ℕ → A) (i n : ℕ) → ((k : ℕ) → i ≤ k → k < i + n → g k ≡ h k) → map g (countFrom i n) ≡ map h (countFrom i n)
+  alike-from g h i zero e = refl
+  alike-from g h i (suc n) e = rw (e i (omega arith) (omega arith), alike-from g h (suc i) n (λ k a b. e k (omega arith) (omega arith)))
+
+  -- two functions that agree below n give the same list
+  pub listed-alike : (g h : ℕ → A) (n : ℕ) → ((k : ℕ) → k < n → g k ≡ h k) → map g (upTo n) ≡ map h (upTo n)
+  listed-alike g h n e = alike-from g h 0 n (λ k a b. e k (omega arith))
+
+-- an entry stored behind those in use is one more of them
+pub stored-next : {A B : Type 0} (f : A → B) (d a : A) (items : List A) (n : ℕ) → n < length items
+    → map (λ i. f (getD (set items n a) i d)) (upTo (n + 1)) ≡ map (λ i. f (getD items i d)) (upTo n) ++ (f a ∷ [])
+stored-next f d a items n h =
+    listed-more (λ i. f (getD (set items n a) i d)) n
+    ∙ (rw (getD-set-same items n a d h, listed-alike (λ i. f (getD (set items n a) i d)) (λ i. f (getD items i d)) n (λ k b. ap f (getD-set-other items n k a d (λ e. omega arith)))))
+
+-- a list made by counting, where what it is made of changes at one place
+pub changed-at : {A : Type 0} (f g : ℕ → A) (n t : ℕ) → ((i : ℕ) → i ≢ t → g i ≡ f i) → map g (upTo n) ≡ set (map f (upTo n)) t (g t)
+changed-at {A} f g n t same' = ext-getD (g t) (map g (upTo n)) (set (map f (upTo n)) t (g t)) (length-listed g n ∙ sym (length-set (map f (upTo n)) t (g t) ∙ length-listed f n)) at
+  where
+    at : (i : ℕ) → i < length (map g (upTo n)) → getD (map g (upTo n)) i (g t) ≡ getD (set (map f (upTo n)) t (g t)) i (g t)
+    at i k = go (equal? i t)
+      where
+        b : i < n
+        b = omega (arith, length-listed g n)
+
+        go : (i ≡ t) ⊎ (i ≢ t) → getD (map g (upTo n)) i (g t) ≡ getD (set (map f (upTo n)) t (g t)) i (g t)
+        go (inl e) = listed g n i (g t) b ∙ rw e (sym (getD-set-same (map f (upTo n)) t (g t) (g t) (omega (arith, b, length-listed f n))))
+        go (inr d) = listed g n i (g t) b ∙ same' i d ∙ sym (getD-set-other (map f (upTo n)) t i (g t) (g t) d ∙ listed f n i (g t) b)
+
+-- those that pass are no more than all
+pub filter-few : {A : Type 0} (f : A → Bool) (l : List A) → length (filter f l) ≤ length l
+filter-few f [] = omega arith
+filter-few f (a ∷ l) = go (f a) (filter-few f l)
+  where
+    go : (b : Bool) → length (filter f l) ≤ length l → length (cond b (a ∷ filter f l) (filter f l)) ≤ suc (length l)
+    go true h = omega arith
+    go false h = omega arith

@@ -9,10 +9,11 @@ use native.Mathlib.Omega.{arith}
 use lib.Dec.{T, ltb, eqb, ltb→lt, nltb→le, eqb→eq, T-not}
 use Rattle.model.specs.Searches.{_▷_, filter, isEmpty, same}
 use Rattle.model.specs.Plan.{Plan, base, mayTake}
-use Rattle.model.specs.Records.{Call, Create, Delay, Relinquish, End, Take, Give, Tick, Report, Ready, Switch, Won, Lost, Yield, Record, call, report, reportKind, named, isTick}
-use Rattle.model.specs.State.{Condition, dormant, ready, asleep, waiting, Hold, State, condition, lastReported, switchedTo, setReported, setDue, becomes, leaveQueue, joinQueue, arrive, joinWaits, leaveWaits, isHold, beginHold, endHold, owe}
+use Rattle.model.specs.Records.{Call, Create, Delay, Relinquish, End, Take, Give, Tick, Timing, TimerCall, Report, Ready, Switch, Won, Lost, Yield, Expire, Late, Record, call, report, reportKind, operand, isTick}
+use Rattle.model.specs.Timers.{setTimer, lateDue}
+use Rattle.model.specs.State.{Condition, dormant, ready, asleep, waiting, Hold, State, condition, lastReported, switchedTo, setReported, setDue, becomes, leaveQueue, joinQueue, arrive, joinWaits, leaveWaits, isHold, beginHold, endHold, owe, setTimers}
 use Rattle.model.specs.Priorities.{heldCeiling, chosen}
-use Rattle.model.specs.Calls.{create, tick, delay, rivalled, relinquish, end, aboveAll, heldByOthers, take, wanted, heir, handOver, give, switch, perform}
+use Rattle.model.specs.Calls.{create, tick, delay, rivalled, relinquish, end, aboveAll, heldByOthers, take, wanted, heir, handOver, give, timing, switch, perform}
 use Rattle.model.specs.Rules.{Question, firstNo, isSomebody, askCaller, isDormant, holdsNone, holdsNot, lastTaken, askFirst, questions, broken}
 use Rattle.model.specs.Runs.{effect, Outcome, moved, broke, outcome, step}
 use Rattle.model.proofs.Tests.{split, is-true, is-false, and-both, eq-test, ne-test, test-ne, equal?, same-eq}
@@ -49,6 +50,7 @@ pub data Performed (p : Plan) (st : State) : Call → State → Type 0 where
       → Performed p st (Give s) (st ▷ endHold s x ▷ leaveWaits w ▷ beginHold z w ▷ arrive (w ∷ []) ▷ owe (Won w ∷ Ready w ∷ []))
   refused : {s : ℕ} (x w : ℕ) → Caller p st x → lastTaken (st .holds) x ≡ some s → IsGreatest (base p) (st .waits) w → Bar p (given x s (st .holds)) w → Performed p st (Give s) (st ▷ endHold s x ▷ owe (Lost w ∷ []))
   ticked : Performed p st Tick (tick st)
+  timed : {k : TimerCall} (x : ℕ) → Caller p st x → Performed p st (Timing k) (st ▷ setTimers (setTimer k (st .tickNumber) (st .timers)) ▷ owe (lateDue k (st .tickNumber) (st .timers)))
 
 -- the Switch that is due after a call, if any
 abbrev pub switchDue : Plan → State → List Report
@@ -66,6 +68,11 @@ switch-owes p st = go (same (lastReported st) (chosen p st))
 pub data Moved (p : Plan) (st : State) : Record → State → Type 0 where
   byCall : {k : Call} (mid : State) → T (isTick k) ⊎ (st .due ≡ []) → Performed p st k mid → Moved p st (call k) (mid ▷ owe (switchDue p mid))
   byReport : {r : Report} (ds : List Report) → st .due ≡ r ∷ ds → Moved p st (report r) (st ▷ setReported (switchedTo (st .reported) r) ▷ setDue ds)
+
+-- a call other than Tick came with nothing due
+pub nothing-due : (k : Call) {l : List Report} → T (not (isTick k)) → T (isTick k) ⊎ (l ≡ []) → l ≡ []
+nothing-due k n (inl t) = absurd (T-not (isTick k) n t)
+nothing-due k n (inr e) = e
 
 -- the questions, as facts
 
@@ -102,23 +109,25 @@ holds-not : (hs : List Hold) (s x : ℕ) → T (holdsNot hs s x) → (h : Hold) 
 holds-not hs s x t h m e q =
     T-not (isHold s x h) (any-fails (isHold s x) hs t m) (and-both (eqb (h .section) s) (eqb (h .thread) x) (eq-test (h .section) s q) (eq-test (h .thread) x e))
 
--- a report is told by its kind and the thread that it names
-abbrev threadOf : Option ℕ → ℕ
-threadOf none = 0
-threadOf (some t) = t
+-- a report is told by its kind and its operand
+abbrev numberOf : Option ℕ → ℕ
+numberOf none = 0
+numberOf (some t) = t
 
 abbrev rebuilt : ℕ → Option ℕ → Report
-rebuilt k w = cond (eqb k 17) (Switch w) (cond (eqb k 16) (Ready (threadOf w)) (cond (eqb k 18) (Won (threadOf w)) (cond (eqb k 19) (Lost (threadOf w)) (Yield (threadOf w)))))
+rebuilt k w = cond (eqb k 17) (Switch w) (cond (eqb k 16) (Ready (numberOf w)) (cond (eqb k 18) (Won (numberOf w)) (cond (eqb k 19) (Lost (numberOf w)) (cond (eqb k 20) (Yield (numberOf w)) (cond (eqb k 21) (Expire (numberOf w)) (Late (numberOf w)))))))
 
-rebuilds : (r : Report) → rebuilt (reportKind r) (named r) ≡ r
+rebuilds : (r : Report) → rebuilt (reportKind r) (operand r) ≡ r
 rebuilds (Ready t) = refl
 rebuilds (Switch w) = refl
 rebuilds (Won t) = refl
 rebuilds (Lost t) = refl
 rebuilds (Yield t) = refl
+rebuilds (Expire i) = refl
+rebuilds (Late n) = refl
 
-same-report : (d r : Report) → T (eqb (reportKind d) (reportKind r)) → T (same (named d) (named r)) → d ≡ r
-same-report d r k w = sym (rebuilds d) ∙ rw (eqb→eq (reportKind d) (reportKind r) k, same-eq (named d) (named r) w) (rebuilds r)
+same-report : (d r : Report) → T (eqb (reportKind d) (reportKind r)) → T (same (operand d) (operand r)) → d ≡ r
+same-report d r k w = sym (rebuilds d) ∙ rw (eqb→eq (reportKind d) (reportKind r) k, same-eq (operand d) (operand r) w) (rebuilds r)
 
 abbrev stateOf : State → Outcome → State
 stateOf st (moved st') = st'
@@ -134,7 +143,7 @@ isMove (broke n) = 0
 pub not-broke : (n : ℕ) (st : State) → broke n ≡ moved st → ⊥
 not-broke n st e = omega (arith, ap isMove e)
 
-first-due : (due : List Report) (r : Report) → T (askFirst due (λ d. eqb (reportKind d) (reportKind r))) → T (askFirst due (λ d. same (named d) (named r))) → due ≡ r ∷ tail due
+first-due : (due : List Report) (r : Report) → T (askFirst due (λ d. eqb (reportKind d) (reportKind r))) → T (askFirst due (λ d. same (operand d) (operand r))) → due ≡ r ∷ tail due
 first-due [] r k w = absurd k
 first-due (d ∷ ds) r k w = ap {B = List Report} (λ x. x ∷ ds) (same-report d r k w)
 
@@ -150,17 +159,18 @@ module _ (p : Plan) (st : State) where
 
   -- a call comes with nothing due
   pub idle : (k : Call) → AllYes (questions p st (call k)) → st .due ≡ []
-  idle (Create t) a = empty-is (st .due) (a .0)
-  idle (Delay n) a = empty-is (st .due) (a .0)
-  idle Relinquish a = empty-is (st .due) (a .0)
-  idle End a = empty-is (st .due) (a .0)
-  idle (Take s) a = empty-is (st .due) (a .0)
-  idle (Give s) a = empty-is (st .due) (a .0)
-  idle Tick a = empty-is (st .due) (a .0)
+  idle (Create t) a = empty-is (st .due) (a .1 .0)
+  idle (Delay n) a = empty-is (st .due) (a .1 .0)
+  idle Relinquish a = empty-is (st .due) (a .1 .0)
+  idle End a = empty-is (st .due) (a .1 .0)
+  idle (Take s) a = empty-is (st .due) (a .1 .0)
+  idle (Give s) a = empty-is (st .due) (a .1 .0)
+  idle Tick a = empty-is (st .due) (a .1 .0)
+  idle (Timing k) a = empty-is (st .due) (a .1 .0)
 
   -- a report is the first due
   pub reports-first : (r : Report) → AllYes (questions p st (report r)) → st .due ≡ r ∷ tail (st .due)
-  reports-first r a = first-due (st .due) r (a .1 .0) (a .1 .1 .0)
+  reports-first r a = first-due (st .due) r (a .1 .1 .0) (a .1 .1 .1 .0)
 
 module _ (p : Plan) (st : State) (c : SoundState p st) where
   above-others : (x : ℕ) → T (aboveAll p x (heldByOthers x (st .holds))) → (h : Hold) → Mem h (st .holds) → (h .thread ≡ x) ⊎ (heldCeiling p h < base p x)
@@ -218,22 +228,23 @@ module _ (p : Plan) (st : State) (c : SoundState p st) where
   asked x f e t = subst (λ (o : Option ℕ). T (askCaller o f)) e t
 
   pub performed : (k : Call) → AllYes (questions p st (call k)) → Performed p st k (perform p k st)
-  unfolding create delay end
-  performed (Create t) a = created (dormant-is (condition st t) (a .1 .0))
+  unfolding create delay end timing
+  performed (Create t) a = created (dormant-is (condition st t) (a .1 .1 .0))
   performed (Delay n) a =
-      let x = somebody (chosen p st) (a .1 .0) in
-      rw (x .1) (delayed (x .0) (x .1) (holds-none (st .holds) (x .0) (asked (x .0) (holdsNone (st .holds)) (x .1) (a .1 .1 .0))))
-  performed Relinquish a = let x = somebody (chosen p st) (a .1 .0) in rw (x .1) (relinquished (x .0) (x .1))
+      let x = somebody (chosen p st) (a .1 .1 .0) in
+      rw (x .1) (delayed (x .0) (x .1) (holds-none (st .holds) (x .0) (asked (x .0) (holdsNone (st .holds)) (x .1) (a .1 .1 .1 .0))))
+  performed Relinquish a = let x = somebody (chosen p st) (a .1 .1 .0) in rw (x .1) (relinquished (x .0) (x .1))
   performed End a =
-      let x = somebody (chosen p st) (a .1 .0) in
-      rw (x .1) (ended (x .0) (x .1) (holds-none (st .holds) (x .0) (asked (x .0) (holdsNone (st .holds)) (x .1) (a .1 .1 .0))))
+      let x = somebody (chosen p st) (a .1 .1 .0) in
+      rw (x .1) (ended (x .0) (x .1) (holds-none (st .holds) (x .0) (asked (x .0) (holdsNone (st .holds)) (x .1) (a .1 .1 .1 .0))))
   performed (Take s) a =
-      let x = somebody (chosen p st) (a .1 .0) in
-      rw (x .1) (taken (x .0) s (x .1) (asked (x .0) (λ y. mayTake p y s) (x .1) (a .1 .1 .0)) (asked (x .0) (holdsNot (st .holds) s) (x .1) (a .1 .1 .1 .0)))
+      let x = somebody (chosen p st) (a .1 .1 .0) in
+      rw (x .1) (taken (x .0) s (x .1) (asked (x .0) (λ y. mayTake p y s) (x .1) (a .1 .1 .1 .0)) (asked (x .0) (holdsNot (st .holds) s) (x .1) (a .1 .1 .1 .1 .0)))
   performed (Give s) a =
-      let x = somebody (chosen p st) (a .1 .0) in
-      rw (x .1) (gave (x .0) s (x .1) (same-eq (lastTaken (st .holds) (x .0)) (some s) (asked (x .0) (λ y. same (lastTaken (st .holds) y) (some s)) (x .1) (a .1 .1 .0))))
+      let x = somebody (chosen p st) (a .1 .1 .0) in
+      rw (x .1) (gave (x .0) s (x .1) (same-eq (lastTaken (st .holds) (x .0)) (some s) (asked (x .0) (λ y. same (lastTaken (st .holds) y) (some s)) (x .1) (a .1 .1 .1 .0))))
   performed Tick a = ticked
+  performed (Timing k) a = let x = somebody (chosen p st) (a .1 .1 .0) in timed (x .0) (x .1)
 
   pub moves : (r : Record) (st' : State) → step p st r ≡ moved st' → Moved p st r st'
   moves r st' e = let q = answered p st r st' e in subst (λ (s : State). Moved p st r s) (q .1) (of r (q .0))

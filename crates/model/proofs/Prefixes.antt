@@ -75,6 +75,22 @@ module _ (p : Plan) (rs : List Record) (n d : ℕ) (e : judge p rs ≡ clean n d
       ended : clean (length rs) (length (after p rs (length rs) .due)) ≡ clean n d
       ended = sym (run-ended p (length rs) (after p rs (length rs))) ∙ rw none-left at (clean-rest (length rs) (omega arith))
 
+-- the state to which a list of records leads; meant for clean runs only
+abbrev pub ending : Plan → List Record → State → State
+ending p [] st = st
+ending p (r ∷ rs) st = ending p rs (effect p r st)
+
+-- from the start it is the one after all of them
+pub ending-after : (p : Plan) (rs : List Record) → ending p rs (start p) ≡ after p rs (length rs)
+ending-after p rs = sym (rest (length rs) (omega arith)) ∙ ap (λ (l : List Record). ending p l (after p rs (length rs))) (drop-of-length-le rs {i = length rs} (omega arith))
+  where
+    rest : (k : ℕ) → k ≤ length rs → ending p (drop k rs) (after p rs k) ≡ ending p rs (start p)
+    rest zero h = refl
+    rest (suc k) h = go (look rs k h) (rest k (omega arith))
+      where
+        go : (r : Record) × Is rs k r → ending p (drop k rs) (after p rs k) ≡ ending p rs (start p) → ending p (drop (suc k) rs) (after p rs (suc k)) ≡ ending p rs (start p)
+        go r e = rw (r .1) (rw (is-next rs k (r .0) (r .1)) at e)
+
 -- the records before a breach
 
 -- the run from a state, whose first record has number i, is clean up to record b

@@ -1,15 +1,14 @@
--- What a step tells the crates that walk over records: at the start nobody is chosen, a step counts one Tick at most, a broken rule is 21 to 30.
+-- What a step tells the crates that walk over records: at the start nobody is chosen, a step counts one Tick at most, a broken rule is 21 to 32.
 use mathlib.Core.Path.{_≡_, refl, ap, _∙_}
 use mathlib.Core.Bool.{Bool, true, false, cond, _&&_}
 use mathlib.Core.List.{List, [], _∷_}
 use mathlib.Core.Option.{Option, none, some, Option·none-ne-some, Option·some-injective}
 use Prim.Native.Nat.{ℕ, suc, _≤_}
 use native.Mathlib.Omega.{arith}
-use lib.Dec.{T, leb, eqb, leb→le}
-use lib.ListN.{length}
+use lib.Dec.{T, leb, leb→le}
 use Rattle.model.specs.Searches.{all}
-use Rattle.model.specs.Plan.{Plan, threads, validPlan}
-use Rattle.model.specs.Records.{Create, Delay, Relinquish, End, Take, Give, Tick, Record, call, report}
+use Rattle.model.specs.Plan.{Plan}
+use Rattle.model.specs.Records.{Arm, Start, Period, Cancel, Create, Delay, Relinquish, End, Take, Give, Tick, Timing, Record, call, report, isTickRecord}
 use Rattle.model.specs.State.{State, start}
 use Rattle.model.specs.Priorities.{chosen}
 use Rattle.model.specs.Rules.{Question, firstNo, questions, broken}
@@ -29,35 +28,13 @@ pub start-nobody : (p : Plan) → chosen p (start p) ≡ none
 unfolding chosen
 start-nobody p = refl
 
--- question 1 in numbers
-pub counts-fit : (p : Plan) → T (validPlan p) → (threads p ≤ 16) × (p .sections ≤ 16)
-unfolding validPlan
-counts-fit p v =
-    let few : T (leb 1 (threads p) && leb (threads p) 16) = and-left (leb 1 (threads p) && leb (threads p) 16) (leb (p .sections) 16) counts in
-    (leb→le (threads p) 16 (and-right (leb 1 (threads p)) (leb (threads p) 16) few), leb→le (p .sections) 16 (and-right (leb 1 (threads p) && leb (threads p) 16) (leb (p .sections) 16) counts))
-  where
-    first : Bool
-    first = leb 1 (threads p) && leb (threads p) 16 && leb (p .sections) 16
-
-    second : Bool
-    second = eqb (length (p .needs)) (threads p)
-
-    third : Bool
-    third = all (λ b. leb 1 b && leb b 64) (p .bases)
-
-    counts : T first
-    counts = and-left first second (and-left (first && second) third (and-left (first && second && third) _ v))
-
 -- one record counts one Tick at most
 tick-of : (r : Record) → tickOf (some r) ≤ 1
-tick-of (call (Create t)) = omega arith
-tick-of (call (Delay n)) = omega arith
-tick-of (call Relinquish) = omega arith
-tick-of (call End) = omega arith
-tick-of (call (Take s)) = omega arith
-tick-of (call (Give s)) = omega arith
-tick-of (call Tick) = omega arith
-tick-of (report r) = omega arith
+tick-of r = go (isTickRecord r)
+  where
+    go : (b : Bool) → cond b 1 0 ≤ 1
+    go true = omega arith
+    go false = omega arith
 
 pub tick-at-most : (p : Plan) (st : State) → Reached p st → (r : Record) (st' : State) → step p st r ≡ moved st' → st' .tickNumber ≤ suc (st .tickNumber)
 tick-at-most p st b r st' e =
@@ -75,7 +52,7 @@ number-passes f (q ∷ qs) t n e = go (q .answer) (λ i. number-passes f qs (and
 
 module _ (p : Plan) (st : State) where
   abbrev isNumber : ℕ → Bool
-  isNumber n = leb 21 n && leb n 30
+  isNumber n = leb 21 n && leb n 32
 
   numbered : (r : Record) → T (all (λ q. isNumber (q .number)) (questions p st r))
   numbered (call (Create t)) = tt
@@ -85,11 +62,15 @@ module _ (p : Plan) (st : State) where
   numbered (call (Take s)) = tt
   numbered (call (Give s)) = tt
   numbered (call Tick) = tt
+  numbered (call (Timing (Arm i))) = tt
+  numbered (call (Timing (Start n))) = tt
+  numbered (call (Timing (Period n))) = tt
+  numbered (call (Timing (Cancel i))) = tt
   numbered (report r) = tt
 
-  pub broken-rule : (r : Record) (n : ℕ) → step p st r ≡ broke n → (21 ≤ n) × (n ≤ 30)
+  pub broken-rule : (r : Record) (n : ℕ) → step p st r ≡ broke n → (21 ≤ n) × (n ≤ 32)
   unfolding step broken
-  broken-rule r n e = let t = go (broken p st r) refl e in (leb→le 21 n (and-left (leb 21 n) (leb n 30) t), leb→le n 30 (and-right (leb 21 n) (leb n 30) t))
+  broken-rule r n e = let t = go (broken p st r) refl e in (leb→le 21 n (and-left (leb 21 n) (leb n 32) t), leb→le n 32 (and-right (leb 21 n) (leb n 32) t))
     where
       go : (o : Option ℕ) → broken p st r ≡ o → outcome o (effect p r st) ≡ broke n → T (isNumber n)
       go none q i = let z : _≡_ {A = ℕ} 0 1 = cc in absurd (omega arith)

@@ -15,9 +15,9 @@ use Rattle.model.specs.Priorities.{chosen}
 use Rattle.model.specs.Words.{Is, runner, ticks, CallOf, TakeOrGive}
 use Rattle.model.proofs.Invariant.{tag, Invariant}
 use Rattle.model.proofs.Numbered.{look, below, same-record}
-use Rattle.model.proofs.Performed.{Caller, Moved, byCall, byReport}
+use Rattle.model.proofs.Performed.{Caller, Moved, byCall, byReport, nothing-due}
 use Rattle.model.proofs.Kept.{moved-keeps, all-dormant, start-has}
-use Rattle.model.proofs.Holdings.{callNumber, call-numbered, nothing-due}
+use Rattle.model.proofs.Holdings.{callNumber, call-numbered}
 use Rattle.model.proofs.Dues.{WonReady, won-stays-ready, tick-counts, switch-given}
 
 pub not-report : (rs : List Record) (k : ℕ) (c : Call) (d : Report) → Is rs k (call c) → Is rs k (report d) → ⊥

@@ -17,7 +17,7 @@ use Rattle.model.specs.Calls.{sleepsUntil, sleepers, tick}
 use Rattle.model.proofs.Tests.{split, equal?, some-one}
 use Rattle.model.proofs.Invariant.{SoundState}
 use Rattle.model.proofs.Agreement.{inside, set-other, set-own}
-use Rattle.model.proofs.Performed.{Caller, Performed, created, delayed, kept, yielded, ended, won, lost, freed, passed, refused, ticked, switchDue, Moved, byCall, byReport}
+use Rattle.model.proofs.Performed.{Caller, Performed, created, delayed, kept, yielded, ended, won, lost, freed, passed, refused, ticked, timed, switchDue, Moved, byCall, byReport}
 use Rattle.model.proofs.Kept.{caller-queued, sleeps-is, sleeper, in-sleepers}
 
 -- the condition of a thread once these have become ready
@@ -105,6 +105,7 @@ module _ (p : Plan) (st : State) (c : SoundState p st) where
       one-turn (call (Give s)) _ w t ready refl (inside (st .conditions) w (waiting z) q (omega arith)) (λ i. inherits s z (Ready w ∷ []) refl q i (here refl) refl)
   call-turn (refused x w e l g b) t = same refl
   call-turn ticked t = tick-turn t
+  call-turn (timed x e) t = same refl
 
   behind : (due ds : List Report) (first : Report) (rest : List Report) → due ≡ st .due ++ first ∷ rest → due ++ ds ≡ st .due ++ first ∷ (rest ++ ds)
   behind due ds first rest e = ap (λ (l : List Report). l ++ ds) e ∙ append-assoc (st .due) (first ∷ rest) ds

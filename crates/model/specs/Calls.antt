@@ -1,14 +1,15 @@
 -- What each call does, in the order of document 01.
 use mathlib.Core.Bool.{Bool, false, cond, not, _&&_}
-use mathlib.Core.List.{List, [], _∷_, map}
+use mathlib.Core.List.{List, [], _∷_, _++_, map}
 use mathlib.Core.Option.{Option, none, some}
 use Prim.Native.Nat.{ℕ, suc, _+_}
 use lib.Dec.{ltb, eqb}
 use lib.ListN.{length}
 use Rattle.model.specs.Searches.{_▷_, all, any, filter, firstGreatest, upTo, same}
 use Rattle.model.specs.Plan.{Plan, base}
-use Rattle.model.specs.Records.{Call, Create, Delay, Relinquish, End, Take, Give, Tick, Ready, Switch, Won, Lost, Yield}
-use Rattle.model.specs.State.{Condition, dormant, ready, asleep, waiting, Hold, State, condition, lastReported, setTickNumber, becomes, leaveQueue, joinQueue, arrive, joinWaits, leaveWaits, beginHold, endHold, owe}
+use Rattle.model.specs.Records.{Call, Create, Delay, Relinquish, End, Take, Give, Tick, Timing, TimerCall, Ready, Switch, Won, Lost, Yield, Expire}
+use Rattle.model.specs.Timers.{setTimer, lateDue, expired, moveOn}
+use Rattle.model.specs.State.{Condition, dormant, ready, asleep, waiting, Hold, State, condition, lastReported, setTickNumber, becomes, leaveQueue, joinQueue, arrive, joinWaits, leaveWaits, beginHold, endHold, owe, setTimers}
 use Rattle.model.specs.Priorities.{heldCeiling, current, chosen}
 
 -- Create (1), thread: it becomes ready at the line's end. Ready due.
@@ -26,14 +27,15 @@ abbrev pub sleepers : (number : ℕ) → State → List ℕ
 sleepers n st = filter (λ t. sleepsUntil n (condition st t)) (upTo (length (st .conditions)))
 
 -- Tick (7): the tick number grows by one. Sleepers whose tick number this is become ready, lower thread number first. Ready due for each.
+-- Expire (21, timer) is due at its tick before any Ready, lower timer first.
 unfoldable pub tick : State → State
 tick st =
     let n = suc (st .tickNumber) in
     let woken = sleepers n st in
-    st ▷ setTickNumber n ▷ arrive woken ▷ owe (map Ready woken)
+    st ▷ setTickNumber n ▷ setTimers (moveOn n (st .timers)) ▷ arrive woken ▷ owe (map Expire (expired n (st .timers)) ++ map Ready woken)
 
 -- Delay (2), n from 1: the caller sleeps until tick number + n + 1. (A tick number and a number of ticks to wait are separate units:
--- this sum, which gives a number, is the one place where they meet.)
+-- only number plus wait gives a number, here and where a timer expires.)
 unfoldable pub delay : (caller ticks : ℕ) → State → State
 delay x n st = st ▷ leaveQueue x ▷ becomes (asleep (st .tickNumber + n + 1)) x
 
@@ -87,6 +89,10 @@ handOver p (some w) st =
 unfoldable pub give : Plan → (caller section : ℕ) → State → State
 give p x s st = st ▷ endHold s x ▷ handOver p (heir p st)
 
+-- Arm (8), Start (9), Period (10) and Cancel (11) set the timers. Late due after Period.
+unfoldable pub timing : TimerCall → State → State
+timing k st = st ▷ setTimers (setTimer k (st .tickNumber) (st .timers)) ▷ owe (lateDue k (st .tickNumber) (st .timers))
+
 -- After each call, if the chosen thread isn't the one last reported, Switch to it is due last, and it counts as reported.
 unfoldable pub switch : Plan → State → State
 switch p st = cond (same (lastReported st) (chosen p st)) st (st ▷ owe (Switch (chosen p st) ∷ []))
@@ -104,3 +110,4 @@ perform p End st = byCaller (chosen p st) end st
 perform p (Take s) st = byCaller (chosen p st) (λ x. take p x s) st
 perform p (Give s) st = byCaller (chosen p st) (λ x. give p x s) st
 perform p Tick st = tick st
+perform p (Timing k) st = timing k st

@@ -1,20 +1,25 @@
 -- Answer 12: what is asked of a state that came from outside, in the words of document 01. Such a state need not be one that a run reaches.
 use mathlib.Core.Bool.{Bool, true, _&&_}
 use mathlib.Core.List.{List}
+use mathlib.Core.Option.{Option, none, some}
 use Prim.Native.Nat.{ℕ, _+_}
 use lib.Dec.{eqb, leb, ltb}
 use lib.ListN.{length}
 use Rattle.model.specs.Searches.{all, filter, upTo}
 use Rattle.model.specs.Plan.{Plan, threads, validPlan}
-use Rattle.model.specs.Records.{Report, report, isThread, allowed}
+use Rattle.model.specs.Records.{timerCount, Report, report, isThread, allowed}
+use Rattle.model.specs.Timers.{Timer, Arming, noArming, afterArm, afterStart, Timers}
 use Rattle.model.specs.State.{Condition, dormant, ready, asleep, waiting, Hold, State, condition}
 
--- the greatest tick number, and the greatest that a sleeper waits for
+-- the greatest tick number, the greatest that a sleeper waits for, and the greatest at which a timer expires
 abbrev pub lastTick : ℕ
 lastTick = 4000000000
 
 abbrev pub lastWake : ℕ
 lastWake = 4000065536
+
+abbrev pub lastExpiry : ℕ
+lastExpiry = 4000065535
 
 -- A number is out of range: a thread or section is not below T or S, a report is not one of this paper's, the tick number is above
 -- 4,000,000,000 or a sleeper's above 4,000,065,536.
@@ -39,6 +44,20 @@ numbersInRange p st =
     && areThreads (threads p) (st .queue)
     && areThreads (threads p) (st .waits)
     && all (holdInRange (threads p) (p .sections)) (st .holds)
+
+-- Timers are 0 to 7, and expiries at most 4,000,065,535.
+
+abbrev pub armingInRange : Arming → Bool
+armingInRange noArming = true
+armingInRange (afterArm i) = ltb i timerCount
+armingInRange (afterStart i s) = ltb i timerCount
+
+abbrev pub timerInRange : Option Timer → Bool
+timerInRange none = true
+timerInRange (some t) = leb (t .expiry) lastExpiry
+
+abbrev pub timersInRange : Timers → Bool
+timersInRange ts = armingInRange (ts .arming) && all timerInRange (ts .slots)
 
 -- how many of them pass the test
 abbrev pub times : {A : Type 0} → (A → Bool) → List A → ℕ
@@ -69,10 +88,10 @@ standsOnce queue waits c t = eqb (times (λ u. eqb u t) queue) (inQueue c) && eq
 abbrev pub allStandOnce : Plan → State → Bool
 allStandOnce p st = all (λ t. standsOnce (st .queue) (st .waits) (condition st t) t) (upTo (threads p))
 
--- A report is not one of this paper's, or more than T + 1 are due.
+-- A report is not one of this paper's, or more than T + 9 are due.
 abbrev pub dueInRange : Plan → List Report → Bool
-dueInRange p due = leb (length due) (threads p + 1) && all (λ d. allowed p (report d)) due
+dueInRange p due = leb (length due) (threads p + 9) && all (λ d. allowed p (report d)) due
 
 -- the answer is not 12
 unfoldable pub formed : Plan → State → Bool
-formed p st = validPlan p && numbersInRange p st && heldOnce (p .sections) (st .holds) && allStandOnce p st && dueInRange p (st .due)
+formed p st = validPlan p && numbersInRange p st && timersInRange (st .timers) && heldOnce (p .sections) (st .holds) && allStandOnce p st && dueInRange p (st .due)

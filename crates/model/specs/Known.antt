@@ -9,8 +9,9 @@ use lib.ListN.{replicate, take, set}
 use Rattle.model.specs.Searches.{all}
 use Rattle.model.specs.Plan.{Plan, bit, ceiling, validPlan}
 use Rattle.model.specs.Records.{Call, Create, Delay, Relinquish, Take, Give, Tick, Report, Ready, Switch, Won, Lost, Yield, Record, call, report, allowed}
+use Rattle.model.specs.Timers.{lost, armedAt}
 use Rattle.model.specs.Priorities.{greatestHold, current, chosen}
-use Rattle.model.specs.Calls.{create, tick, delay, relinquish, end, take as takeCall, give, switch}
+use Rattle.model.specs.Calls.{create, tick, delay, relinquish, end, take as takeCall, give, timing, switch}
 use Rattle.model.specs.Rules.{broken}
 use Rattle.model.specs.Runs.{Verdict, clean, breach, step, run, judge}
 
@@ -126,7 +127,7 @@ judged r = record { label = r .label; verdict = judge (r .of) (r .records) }
 
 -- Every known run has the verdict that document 01 gives it.
 pub known-runs : map judged runs ≡ map stated runs
-unfolding judge run step broken create tick delay relinquish end takeCall give switch chosen current greatestHold bit ceiling
+unfolding judge run step broken create tick delay relinquish end takeCall give timing lost armedAt switch chosen current greatestHold bit ceiling
 known-runs = refl
 
 -- The questions 1 to 4 and 8 pass them all.

@@ -2,6 +2,7 @@
 pub mod Searches
 pub mod Plan
 pub mod Records
+pub mod Timers
 pub mod State
 pub mod Priorities
 pub mod Calls

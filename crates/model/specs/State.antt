@@ -7,7 +7,8 @@ use lib.Dec.{eqb}
 use lib.ListN.{getD, replicate, set}
 use Rattle.model.specs.Searches.{_▷_, filter, without}
 use Rattle.model.specs.Plan.{Plan, threads}
-use Rattle.model.specs.Records.{Report, Ready, Switch, Won, Lost, Yield}
+use Rattle.model.specs.Records.{Report, Ready, Switch, Won, Lost, Yield, Expire, Late}
+use Rattle.model.specs.Timers.{Timers, noTimers}
 
 -- For each thread: dormant, ready, asleep until a tick number, or waiting for a section.
 pub data Condition : Type 0 where
@@ -35,10 +36,12 @@ pub record State : Type 0 where
   pub reported : Option ℕ
   -- the reports due, in order
   pub due : List Report
+  -- the timers, and how far the arming of one has come
+  pub timers : Timers
 
--- At the start all are dormant, the tick number is 0, nobody was reported and nothing is due.
+-- At the start all are dormant, the tick number is 0, nobody was reported, nothing is due and no timer is armed.
 abbrev pub start : Plan → State
-start p = record { tickNumber = 0; conditions = replicate (threads p) dormant; queue = []; holds = []; waits = []; reported = none; due = [] }
+start p = record { tickNumber = 0; conditions = replicate (threads p) dormant; queue = []; holds = []; waits = []; reported = none; due = []; timers = noTimers }
 
 abbrev pub condition : State → (thread : ℕ) → Condition
 condition st t = getD (st .conditions) t dormant
@@ -49,6 +52,8 @@ switchedTo w (Switch v) = v
 switchedTo w (Won t) = w
 switchedTo w (Lost t) = w
 switchedTo w (Yield t) = w
+switchedTo w (Expire i) = w
+switchedTo w (Late n) = w
 
 -- the thread of the latest Switch among these reports, w if there is none
 abbrev pub latestSwitch : Option ℕ → List Report → Option ℕ
@@ -62,25 +67,28 @@ lastReported st = latestSwitch (st .reported) (st .due)
 -- one update for each thing remembered
 
 abbrev pub setTickNumber : ℕ → State → State
-setTickNumber n st = record { tickNumber = n; conditions = st .conditions; queue = st .queue; holds = st .holds; waits = st .waits; reported = st .reported; due = st .due }
+setTickNumber n st = record { tickNumber = n; conditions = st .conditions; queue = st .queue; holds = st .holds; waits = st .waits; reported = st .reported; due = st .due; timers = st .timers }
 
 abbrev pub setConditions : List Condition → State → State
-setConditions cs st = record { tickNumber = st .tickNumber; conditions = cs; queue = st .queue; holds = st .holds; waits = st .waits; reported = st .reported; due = st .due }
+setConditions cs st = record { tickNumber = st .tickNumber; conditions = cs; queue = st .queue; holds = st .holds; waits = st .waits; reported = st .reported; due = st .due; timers = st .timers }
 
 abbrev pub setQueue : List ℕ → State → State
-setQueue q st = record { tickNumber = st .tickNumber; conditions = st .conditions; queue = q; holds = st .holds; waits = st .waits; reported = st .reported; due = st .due }
+setQueue q st = record { tickNumber = st .tickNumber; conditions = st .conditions; queue = q; holds = st .holds; waits = st .waits; reported = st .reported; due = st .due; timers = st .timers }
 
 abbrev pub setHolds : List Hold → State → State
-setHolds hs st = record { tickNumber = st .tickNumber; conditions = st .conditions; queue = st .queue; holds = hs; waits = st .waits; reported = st .reported; due = st .due }
+setHolds hs st = record { tickNumber = st .tickNumber; conditions = st .conditions; queue = st .queue; holds = hs; waits = st .waits; reported = st .reported; due = st .due; timers = st .timers }
 
 abbrev pub setWaits : List ℕ → State → State
-setWaits ws st = record { tickNumber = st .tickNumber; conditions = st .conditions; queue = st .queue; holds = st .holds; waits = ws; reported = st .reported; due = st .due }
+setWaits ws st = record { tickNumber = st .tickNumber; conditions = st .conditions; queue = st .queue; holds = st .holds; waits = ws; reported = st .reported; due = st .due; timers = st .timers }
 
 abbrev pub setReported : Option ℕ → State → State
-setReported w st = record { tickNumber = st .tickNumber; conditions = st .conditions; queue = st .queue; holds = st .holds; waits = st .waits; reported = w; due = st .due }
+setReported w st = record { tickNumber = st .tickNumber; conditions = st .conditions; queue = st .queue; holds = st .holds; waits = st .waits; reported = w; due = st .due; timers = st .timers }
 
 abbrev pub setDue : List Report → State → State
-setDue ds st = record { tickNumber = st .tickNumber; conditions = st .conditions; queue = st .queue; holds = st .holds; waits = st .waits; reported = st .reported; due = ds }
+setDue ds st = record { tickNumber = st .tickNumber; conditions = st .conditions; queue = st .queue; holds = st .holds; waits = st .waits; reported = st .reported; due = ds; timers = st .timers }
+
+abbrev pub setTimers : Timers → State → State
+setTimers ts st = record { tickNumber = st .tickNumber; conditions = st .conditions; queue = st .queue; holds = st .holds; waits = st .waits; reported = st .reported; due = st .due; timers = ts }
 
 -- what the calls are made of
 

@@ -1,13 +1,13 @@
 -- A walk over records, turn by turn: what its loop keeps, that every record on the way may be asked about, and that it ends where the run does.
 use mathlib.Core.Path.{_≡_, refl, ap, sym, subst, _∙_}
 use mathlib.Core.Logic.{_⊎_, inl, inr, _≢_}
-use mathlib.Core.Bool.{cond}
+use mathlib.Core.Bool.{Bool, true, false, cond, not, _||_, true≢false}
 use mathlib.Core.List.{List, [], _∷_, map}
 use Prim.Native.Nat.{ℕ, suc, _+_, _-_, _≤_, _<_}
 use native.Mathlib.Numerals.{add-one}
 use native.Mathlib.Omega.{arith}
-use borrow.Author.Tests.{eq-eqb, ne-eqb}
-use lib.Dec.{T, eqb}
+use borrow.Author.Tests.{eq-eqb, ne-eqb, ltb-true, ltb-false}
+use lib.Dec.{T, eqb, ltb}
 use lib.ListN.{length}
 use Rattle.model.specs.Plan as model
 use Rattle.model.specs.Records as records
@@ -26,7 +26,7 @@ use Rattle.machine.specs.declared.reporting.Reporting.{Reporting}
 use Rattle.machine.specs.Lists.{numbered}
 use Rattle.machine.specs.View.{planOf, view, shown}
 use Rattle.machine.specs.Contracts.{opened}
-use Rattle.machine.specs.Calls.{Stands, Asks, Answers, Closes}
+use Rattle.machine.specs.Calls.{Stands, Asks, Calls, Sets, Answers, Closes}
 use Rattle.machine.proofs.Laws.{ceilings-of, opened-shown, opened-stands, answers-moved, answers-broke}
 use Rattle.dump.specs.Layout.{recordCount, kindAt, operandAt, recordOf, recordAt, part, kindOf}
 use Rattle.dump.specs.Questions.{operandFits}
@@ -64,6 +64,30 @@ pub record Walking (plan : Plan) (st : state.State) (bytes : List ℕ) (from to 
   pub kept : i ≡ from → shown c ≡ st
   -- a lent state has one record: what is known of it is known before that record, where `kept` says that it is here
   pub safe : Runs (planOf (c .machine)) (shown c) (to - i) ⊎ Lent (plans.view plan) st bytes from to
+
+-- what a record that is heard, or not, tells
+
+pub heard-due : (given due : ℕ) (b : Bool) → ltb given due || not b ≡ true → T b → given < due
+heard-due given due b e o = ltb-true given due (go (ltb given due) b e o)
+  where
+    go : (a b : Bool) → a || not b ≡ true → T b → a ≡ true
+    go true b e o = refl
+    go false true e o = absurd (true≢false (sym e))
+    go false false e o = absurd o
+
+pub not-heard : (given due : ℕ) (b : Bool) → ltb given due || not b ≡ false → (due ≤ given) × T b
+not-heard given due b e = let r = go (ltb given due) b e in (ltb-false given due (r .0), r .1)
+  where
+    go : (a b : Bool) → a || not b ≡ false → (a ≡ false) × T b
+    go true b e = absurd (true≢false e)
+    go false true e = (refl, tt)
+    go false false e = absurd (true≢false e)
+
+-- a call that sets timers asks for the ceilings of its plan
+pub plan-ceilings : {c : Reporting} {ceilings : List ℕ} {k : records.TimerCall} → Calls c ceilings (records.Timing k) → Sets c k
+plan-ceilings a =
+    let q = a .asks in
+    record { asks = record { formed' = q .formed'; stands = q .stands; ceilings' = refl; allowed' = q .allowed'; tick' = q .tick' }; undue = a .undue; ordered = a .ordered }
 
 -- record i, by its two numbers
 pub walk-record : (bytes : List ℕ) (i : ℕ) {kind operand : ℕ} → (kind ≡ kindAt bytes i) × (operand ≡ operandAt bytes i) → recordOf kind operand ≡ recordAt bytes i

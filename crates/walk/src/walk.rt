@@ -25,8 +25,8 @@ pub fn walk(s: State, ceilings: &[u8; 16], who: u8, bytes: &[u8], from: usize, t
     let mut i: usize = from;
     while i < to {
         let e = entry_at(bytes, i);
-        if c.owes() {
-            c = c.heard(e.kind, (e.operand % 256) as u8);
+        if c.hears(e.kind) {
+            c = c.heard(e.kind, e.operand);
         } else if e.kind == 7 && c.is_quiet() {
             c = c.passed();
         } else {
@@ -38,6 +38,7 @@ pub fn walk(s: State, ceilings: &[u8; 16], who: u8, bytes: &[u8], from: usize, t
                 Record::Take(n) => c = c.take(ceilings, n),
                 Record::Give(n) => c = c.give(ceilings, n),
                 Record::Tick => c = c.tick(ceilings),
+                Record::Timing(k) => c = c.timing(k),
                 Record::Report(_) => c = c.unasked(),
             }
         }

@@ -7,10 +7,12 @@
 
 mod numbers;
 pub mod packed;
+mod readers;
 mod watch;
 
-pub use numbers::{breach, kind, refused, ABI, NOBODY, OK};
-pub use watch::{Holds, Machine, Plan, Queue, Report, Reports, Slots, State, Watch};
+pub use numbers::{breach, kind, refused, ABI, NOBODY, OK, ROOM, TIMERS};
+pub use readers::{Armed, Begun};
+pub use watch::{Arming, Holds, Machine, Plan, Queue, Report, Reports, Slots, State, Timers, Watch};
 
 extern "C" {
     fn beltcairn_abi() -> u32;
@@ -44,7 +46,7 @@ pub enum Verdict {
     Breach {
         /// The record, from 0.
         record: u64,
-        /// The rule, 21 to 30.
+        /// The rule, 21 to 32.
         rule: u8,
     },
 }
@@ -65,7 +67,7 @@ pub enum Reply {
     Refused(u8),
     /// The number of reports due now.
     Clean(u64),
-    /// The rule, 21 to 30, broken now or at an earlier step.
+    /// The rule, 21 to 32, broken now or at an earlier step.
     Broken(u8),
 }
 

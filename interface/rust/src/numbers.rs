@@ -1,17 +1,24 @@
-//! The numbers of kinds, questions and rules, as document 01 states them. interface/beltcairn.h has the same under the names
+//! The numbers of kinds, questions and rules, as documents 01 and 02 state them. interface/beltcairn.h has the same under the names
 //! `BELTCAIRN_KIND_CREATE`, `BELTCAIRN_REFUSED_KIND`, `BELTCAIRN_BREACH_NONE_DUE` and so on.
 
 /// The number of this interface. It rises whenever the layout of [`Watch`](crate::Watch) or the signature of a function of the library moves;
 /// [`abi`](crate::abi) asks the library for its own.
-pub const ABI: u32 = 1;
+pub const ABI: u32 = 2;
 
-/// The operand of a Switch to nobody. In a watch state, where a thread is named by a byte, 255 stands for nobody.
+/// The operand of a Switch to nobody, in a record and in a report of a watch state. In [`Machine::reported`](crate::Machine::reported), a
+/// byte, 255 stands for nobody.
 pub const NOBODY: u16 = 65535;
+
+/// The timers are 0 to 7.
+pub const TIMERS: usize = 8;
+
+/// The reports of a call that a watch state has room for: T + 9 with T = 16, the most that are ever due.
+pub const ROOM: usize = 25;
 
 /// What the library answers where nothing was refused and no rule is broken.
 pub const OK: u8 = 0;
 
-/// Kinds of records: calls from 1 to 7, reports from 16 to 20.
+/// Kinds of records: calls from 1 to 11, reports from 16 to 22.
 pub mod kind {
     /// Thread below T: it becomes ready at the line's end.
     pub const CREATE: u8 = 1;
@@ -25,8 +32,17 @@ pub mod kind {
     pub const TAKE: u8 = 5;
     /// Section below S: the hold ends, and may pass to a waiting thread.
     pub const GIVE: u8 = 6;
-    /// 0: the tick number grows by one.
+    /// 0: the tick number grows by one, timers expire and sleepers wake.
     pub const TICK: u8 = 7;
+    /// Timer below [`TIMERS`](super::TIMERS): the one to arm, also one that is armed; Start and then Period follow at once.
+    pub const ARM: u8 = 8;
+    /// Tick number, 1 to 65535: when the timer is to expire first. If that has come already, an alarm is not armed and has lost one, and a
+    /// periodic timer loses the expiries up to the tick number and expires at the next.
+    pub const START: u8 = 9;
+    /// The ticks from an expiry to the next, 0 for an alarm; Late is due.
+    pub const PERIOD: u8 = 10;
+    /// Timer below [`TIMERS`](super::TIMERS): it is unarmed.
+    pub const CANCEL: u8 = 11;
     /// Thread below T: it becomes ready, at the line's end.
     pub const READY: u8 = 16;
     /// Thread below T: it runs from now on; [`NOBODY`](super::NOBODY) if nobody does.
@@ -37,6 +53,10 @@ pub mod kind {
     pub const LOST: u8 = 19;
     /// Thread below T: it goes to the line's end.
     pub const YIELD: u8 = 20;
+    /// Timer below [`TIMERS`](super::TIMERS): it expires, before any Ready of the same Tick, lower timer first.
+    pub const EXPIRE: u8 = 21;
+    /// 0 to 65535, after Period: the expiries that the timer has lost; a greater count is written 65535.
+    pub const LATE: u8 = 22;
 }
 
 /// The question that has the answer No; what was lent keeps its content.
@@ -57,7 +77,7 @@ pub mod refused {
     pub const KIND: u8 = 7;
     /// Is every operand allowed for its kind?
     pub const OPERAND: u8 = 8;
-    /// (bench) Does the machine admit every call, each made with earlier reports already given?
+    /// (bench) Does the machine admit every call, each made with earlier reports already given? No also if the list ends inside an arming.
     pub const CALL: u8 = 9;
     /// (bench) Are calls and reports together at most 20,000?
     pub const TOO_MANY: u8 = 10;
@@ -69,11 +89,11 @@ pub mod refused {
     pub const TICK: u8 = 13;
 }
 
-/// The rule that a record breaks: the first that has the answer No.
+/// The rule that a record breaks: the first that has the answer No. 31 is asked before all others, 32 behind them.
 pub mod breach {
     /// (calls) Is nothing due?
     pub const REPORT_DUE: u8 = 21;
-    /// (kinds 2 to 6) Does a thread run?
+    /// (kinds 2 to 6 and 8 to 11) Does a thread run?
     pub const NOBODY_RUNS: u8 = 22;
     /// (Create) Is the thread dormant?
     pub const NOT_DORMANT: u8 = 23;
@@ -89,6 +109,10 @@ pub mod breach {
     pub const NONE_DUE: u8 = 28;
     /// (reports) Is the first due of this kind?
     pub const OTHER_KIND: u8 = 29;
-    /// (reports) Does it name this thread?
+    /// (reports) Does it name this thread? Whole operands are compared.
     pub const OTHER_THREAD: u8 = 30;
+    /// (every record) Do Arm, Start and Period stand together in this order and nowhere else?
+    pub const ARMING_ORDER: u8 = 31;
+    /// (Cancel) Is the timer armed?
+    pub const NOT_ARMED: u8 = 32;
 }

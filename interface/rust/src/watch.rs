@@ -1,5 +1,7 @@
 //! The watch state, field by field as interface/beltcairn.h states it. It holds plain numbers only, so every value of it may be lent.
 
+use crate::numbers::{ROOM, TIMERS};
+
 /// A plan's numbers.
 #[repr(C)]
 #[derive(Clone, Copy, Debug, PartialEq, Eq)]
@@ -50,10 +52,10 @@ pub struct Holds {
 #[repr(C)]
 #[derive(Clone, Copy, Debug, PartialEq, Eq)]
 pub struct Report {
-    /// 16 to 20.
+    /// 16 to 22.
     pub kind: u8,
-    /// The thread that it names, 255 for nobody.
-    pub who: u8,
+    /// As in a dump: the thread that it names or [`NOBODY`](crate::NOBODY), the timer of an Expire, the count of a Late.
+    pub operand: u16,
 }
 
 /// Reports in order.
@@ -61,9 +63,33 @@ pub struct Report {
 #[derive(Clone, Copy, Debug, PartialEq, Eq)]
 pub struct Reports {
     /// The first `count` are in use.
-    pub items: [Report; 17],
+    pub items: [Report; ROOM],
     /// How many there are.
     pub count: usize,
+}
+
+/// How far an arming has come; [`begun`](Arming::begun) reads it.
+#[repr(C)]
+#[derive(Clone, Copy, Debug, PartialEq, Eq)]
+pub struct Arming {
+    /// 0 if no arming is in progress, 1 after Arm, 2 after Start.
+    pub stage: u8,
+    /// The timer of the Arm; at stage 0 it means nothing.
+    pub timer: u8,
+    /// The tick number of the Start; below stage 2 it means nothing.
+    pub start: u16,
+}
+
+/// The timers; [`armed`](Timers::armed) reads one.
+#[repr(C)]
+#[derive(Clone, Copy, Debug, PartialEq, Eq)]
+pub struct Timers {
+    /// The tick number of each timer's next expiry, 0 where it is not armed.
+    pub expiries: [u32; TIMERS],
+    /// The ticks from an expiry to the next, 0 for an alarm; those of timers not armed mean nothing.
+    pub periods: [u16; TIMERS],
+    /// The arming in progress, if there is one.
+    pub arming: Arming,
 }
 
 /// What the machine remembers, but for the reports due.
@@ -86,6 +112,8 @@ pub struct Machine {
     pub waits: Queue,
     /// The thread of the latest Switch given, 255 for nobody.
     pub reported: u8,
+    /// The timers.
+    pub timers: Timers,
 }
 
 /// The machine and its reports.
@@ -96,7 +124,7 @@ pub struct State {
     pub machine: Machine,
     /// The reports of the latest call, in order.
     pub due: Reports,
-    /// How many of them were given; those behind are due.
+    /// How many of them were given; those behind are due ([`owed`](State::owed)).
     pub given: usize,
 }
 
@@ -131,9 +159,18 @@ pub(crate) fn blank() -> Watch {
         },
         waits: queue,
         reported: 0,
+        timers: Timers {
+            expiries: [0; TIMERS],
+            periods: [0; TIMERS],
+            arming: Arming {
+                stage: 0,
+                timer: 0,
+                start: 0,
+            },
+        },
     };
     let due = Reports {
-        items: [Report { kind: 0, who: 0 }; 17],
+        items: [Report { kind: 0, operand: 0 }; ROOM],
         count: 0,
     };
     Watch {

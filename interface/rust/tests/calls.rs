@@ -1,11 +1,20 @@
-//! The functions on the known runs, on what they refuse, and on any bytes.
+//! The functions on the known runs and those of the timers, on what they refuse, and on any bytes.
 mod known;
 
-use beltcairn::kind::{CREATE, DELAY, END, GIVE, LOST, READY, RELINQUISH, SWITCH, TAKE, TICK, WON, YIELD};
+use beltcairn::kind::{
+    ARM, CANCEL, CREATE, DELAY, END, EXPIRE, GIVE, LATE, LOST, PERIOD, READY, RELINQUISH, START, SWITCH, TAKE, TICK, WON, YIELD,
+};
 use beltcairn::{bench, check, Reply, Verdict, Watch, Written};
-use known::{bytes, known, run_a, Run, PLAN_A};
+use known::timers::run_of_timers;
+use known::{bytes, known, run_a, timers, Run, PLAN_A};
 
-const KINDS: [u8; 12] = [CREATE, DELAY, RELINQUISH, END, TAKE, GIVE, TICK, READY, SWITCH, WON, LOST, YIELD];
+const KINDS: [u8; 18] = [
+    CREATE, DELAY, RELINQUISH, END, TAKE, GIVE, TICK, ARM, START, PERIOD, CANCEL, READY, SWITCH, WON, LOST, YIELD, EXPIRE, LATE,
+];
+
+fn all_runs() -> impl Iterator<Item = Run> {
+    known().into_iter().chain(timers::runs())
+}
 
 /// The verdict of live steps, one for each record until one breaks a rule.
 fn step_by_step(plan: &[u8], records: &[(u8, u16)]) -> Verdict {
@@ -26,9 +35,8 @@ fn step_by_step(plan: &[u8], records: &[(u8, u16)]) -> Verdict {
 
 #[test]
 fn known_runs_whole_and_step_by_step() {
-    let runs = known();
-    assert_eq!(runs.len(), 14);
-    for run in &runs {
+    assert_eq!(known().len(), 14);
+    for run in all_runs() {
         assert_eq!(check(&run.plan, &bytes(&run.records)), run.verdict, "{}", run.name);
         assert_eq!(step_by_step(&run.plan, &run.records), run.verdict, "{}", run.name);
     }
@@ -36,8 +44,9 @@ fn known_runs_whole_and_step_by_step() {
 
 #[test]
 fn calls_of_a_clean_run_make_its_dump() {
-    let settled = |run: &&Run| matches!(run.verdict, Verdict::Clean { due: 0, .. });
-    for run in known().iter().filter(settled) {
+    let ends_inside_arming = |run: &Run| matches!(run.records.last(), Some((ARM | START, _)));
+    let settled = |run: &Run| matches!(run.verdict, Verdict::Clean { due: 0, .. }) && !ends_inside_arming(run);
+    for run in all_runs().filter(settled) {
         let calls: Vec<(u8, u16)> = run.records.iter().copied().filter(|r| r.0 < READY).collect();
         let dump = bytes(&run.records);
         let mut out = vec![0xaa; dump.len() + 7];
@@ -57,7 +66,7 @@ fn calls_of_a_clean_run_make_its_dump() {
 
 #[test]
 fn a_breach_is_stored_and_answered_from_then_on() {
-    for run in known() {
+    for run in all_runs() {
         let Verdict::Breach { record, rule } = run.verdict else { continue };
         let mut watch = Watch::begin(&run.plan).unwrap();
         for (kind, operand) in &run.records[..record as usize] {
@@ -96,14 +105,18 @@ fn refused_plans() {
 
 #[test]
 fn refused_dumps_and_lists() {
-    let cases: [(u8, &[u8]); 7] = [
+    let cases: [(u8, &[u8]); 11] = [
         (5, &[]),
         (5, &[0x21, 0x4e]),
         (6, &[0x20, 0x4e]),
         (6, &[0, 0, 0]),
-        (7, &[1, 0, 8, 0, 0]),
+        (7, &[1, 0, 12, 0, 0]),
+        (7, &[1, 0, 23, 0, 0]),
         (8, &[1, 0, CREATE, 3, 0]),
         (8, &[1, 0, TICK, 1, 0]),
+        (8, &[1, 0, ARM, 8, 0]),
+        (8, &[1, 0, START, 0, 0]),
+        (8, &[1, 0, CANCEL, 8, 0]),
     ];
     for (question, list) in cases {
         let mut out = [0xaa; 60];
@@ -114,6 +127,10 @@ fn refused_dumps_and_lists() {
     let mut out = [0xaa; 60];
     assert_eq!(bench(&PLAN_A, &bytes(&[(READY, 0)]), &mut out), Written::Refused(7));
     assert_eq!(bench(&PLAN_A, &bytes(&[(RELINQUISH, 0)]), &mut out), Written::Refused(9));
+    assert_eq!(check(&PLAN_A, &bytes(&[(EXPIRE, 8)])), Verdict::Refused(8));
+    let inside = [(CREATE, 0), (ARM, 0), (START, 1)]; // a list that ends inside an arming
+    assert_eq!(bench(&PLAN_A, &bytes(&inside[..2]), &mut out), Written::Refused(9));
+    assert_eq!(bench(&PLAN_A, &bytes(&inside), &mut out), Written::Refused(9));
     assert_eq!(out, [0xaa; 60]);
 }
 
@@ -155,7 +172,7 @@ fn any_bytes_are_answered() {
         let verdict = check(&plan, &list);
         assert!(matches!(
             verdict,
-            Verdict::Refused(1..=8) | Verdict::Clean { .. } | Verdict::Breach { rule: 21..=30, .. }
+            Verdict::Refused(1..=8) | Verdict::Clean { .. } | Verdict::Breach { rule: 21..=32, .. }
         ));
         match bench(&plan, &list, &mut out) {
             Written::Refused(question) => assert!((1..=11).contains(&question) && out == before),
@@ -165,17 +182,17 @@ fn any_bytes_are_answered() {
     }
 }
 
-/// Run A with up to three numbers changed: the whole check says what live steps say.
+/// Run A and a run of timers with up to three numbers changed: the whole check says what live steps say.
 #[test]
 fn changed_runs_are_judged_alike() {
     let mut numbers = Numbers(2);
     let (mut clean, mut broken) = (0, 0);
-    for _ in 0..20_000 {
-        let mut records = run_a();
+    for i in 0..40_000 {
+        let mut records = if i % 2 == 0 { run_a() } else { run_of_timers() };
         for _ in 0..numbers.below(4) {
             let i = numbers.below(records.len());
             match numbers.below(3) {
-                0 => records[i].0 = KINDS[numbers.below(12)],
+                0 => records[i].0 = KINDS[numbers.below(18)],
                 1 => records[i].1 = numbers.below(4) as u16,
                 _ => records.truncate(i + 1),
             }

@@ -3,7 +3,9 @@ mod known;
 
 use beltcairn::kind::{CREATE, DELAY, END, GIVE, READY, RELINQUISH, SWITCH, TAKE, TICK, WON};
 use beltcairn::packed::{numbers, word};
-use beltcairn::{abi, breach, refused, Holds, Machine, Plan, Queue, Reply, Report, Reports, Slots, State, Watch, ABI, NOBODY};
+use beltcairn::{
+    abi, breach, refused, Arming, Holds, Machine, Plan, Queue, Reply, Report, Reports, Slots, State, Timers, Watch, ABI, NOBODY,
+};
 use known::{run_a, PLAN_A};
 use std::mem::{align_of, offset_of, size_of};
 
@@ -15,22 +17,24 @@ fn one_interface() {
 
 #[test]
 fn sizes() {
-    assert_eq!(ABI, 1); // where a number below moves, this one rises
+    assert_eq!(ABI, 2); // where a number below moves, this one rises
     let parts = [size_of::<Plan>(), size_of::<Slots>(), size_of::<Queue>(), size_of::<Holds>()];
     assert_eq!(parts, [64, 16, 16, 24]);
     let wholes = [
         size_of::<Report>(),
         size_of::<Reports>(),
+        size_of::<Arming>(),
+        size_of::<Timers>(),
         size_of::<Machine>(),
         size_of::<State>(),
         size_of::<Watch>(),
     ];
-    assert_eq!(wholes, [2, 48, 216, 272, 280]);
+    assert_eq!(wholes, [4, 112, 4, 52, 264, 384, 392]);
 }
 
 #[test]
 fn alignments() {
-    assert_eq!(ABI, 1); // where a number below moves, this one rises
+    assert_eq!(ABI, 2); // where a number below moves, this one rises
     let eight = [
         align_of::<Plan>(),
         align_of::<Slots>(),
@@ -41,12 +45,12 @@ fn alignments() {
     ];
     assert_eq!(eight, [8; 6]);
     assert_eq!([align_of::<State>(), align_of::<Watch>()], [8; 2]);
-    assert_eq!(align_of::<Report>(), 1);
+    assert_eq!([align_of::<Report>(), align_of::<Arming>(), align_of::<Timers>()], [2, 2, 4]);
 }
 
 #[test]
 fn offsets() {
-    assert_eq!(ABI, 1); // where a number below moves, this one rises
+    assert_eq!(ABI, 2); // where a number below moves, this one rises
     assert_eq!(
         [
             offset_of!(Plan, threads),
@@ -62,21 +66,36 @@ fn offsets() {
         [offset_of!(Holds, sections), offset_of!(Holds, threads), offset_of!(Holds, count)],
         [0, 8, 16]
     );
-    assert_eq!([offset_of!(Report, kind), offset_of!(Report, who)], [0, 1]);
-    assert_eq!([offset_of!(Reports, items), offset_of!(Reports, count)], [0, 40]);
+    assert_eq!([offset_of!(Report, kind), offset_of!(Report, operand)], [0, 2]);
+    assert_eq!([offset_of!(Reports, items), offset_of!(Reports, count)], [0, 104]);
     assert_eq!([offset_of!(Machine, plan), offset_of!(Machine, tick)], [0, 64]);
     assert_eq!([offset_of!(Machine, slots), offset_of!(Machine, wakes)], [72, 88]);
     assert_eq!(
         [offset_of!(Machine, queue), offset_of!(Machine, holds), offset_of!(Machine, waits)],
         [152, 168, 192]
     );
+    assert_eq!([offset_of!(Machine, reported), offset_of!(Machine, timers)], [208, 212]);
     assert_eq!(
-        [offset_of!(Machine, reported), offset_of!(State, machine), offset_of!(State, due)],
-        [208, 0, 216]
+        [offset_of!(State, machine), offset_of!(State, due), offset_of!(State, given)],
+        [0, 264, 376]
+    );
+    assert_eq!([offset_of!(Watch, state), offset_of!(Watch, rule)], [0, 384]);
+}
+
+#[test]
+fn offsets_of_the_timers() {
+    assert_eq!(ABI, 2); // where a number below moves, this one rises
+    assert_eq!(
+        [offset_of!(Arming, stage), offset_of!(Arming, timer), offset_of!(Arming, start)],
+        [0, 1, 2]
     );
     assert_eq!(
-        [offset_of!(State, given), offset_of!(Watch, state), offset_of!(Watch, rule)],
-        [264, 0, 272]
+        [
+            offset_of!(Timers, expiries),
+            offset_of!(Timers, periods),
+            offset_of!(Timers, arming)
+        ],
+        [0, 32, 48]
     );
 }
 
@@ -97,11 +116,8 @@ fn held(holds: &Holds) -> Vec<(u8, u8)> {
     pairs.take(holds.count).collect()
 }
 
-fn owed(state: &State) -> Vec<(u8, u8)> {
-    state.due.items[state.given..state.due.count]
-        .iter()
-        .map(|r| (r.kind, r.who))
-        .collect()
+fn owed(state: &State) -> Vec<(u8, u16)> {
+    state.owed().iter().map(|report| (report.kind, report.operand)).collect()
 }
 
 /// The condition of each thread, with the tick number or section that belongs to it and 0 where there is none.
@@ -215,7 +231,7 @@ fn states_of_one_thread() {
     steps(&mut watch, &[(GIVE, 1), (GIVE, 0), (DELAY, 300)]);
     assert_eq!(
         (conditions(&watch.state.machine), owed(&watch.state)),
-        (vec![(2, 301)], vec![(SWITCH, 255)])
+        (vec![(2, 301)], vec![(SWITCH, NOBODY)])
     );
     steps(&mut watch, &[(SWITCH, NOBODY), (TICK, 0)]);
     assert_eq!((watch.state.machine.tick, watch.state.machine.reported, watch.rule), (1, 255, 0));
@@ -311,7 +327,7 @@ fn ill_formed_states() {
         |w| w.state.machine.reported = 3,
         |w| w.state.due.count = 1,
         |w| w.state.due.count = usize::MAX,
-        |w| w.rule = 31,
+        |w| w.rule = 33,
     ];
     for change in changes {
         let mut watch = made();
@@ -325,7 +341,8 @@ fn ill_formed_states() {
 fn refused_steps() {
     let mut watch = made();
     is_refused(watch, refused::KIND, 0, 0);
-    is_refused(watch, refused::KIND, 21, 0);
+    is_refused(watch, refused::KIND, 12, 0);
+    is_refused(watch, refused::KIND, 23, 0);
     is_refused(watch, refused::OPERAND, SWITCH, 255);
     watch.state.machine.tick = 4_000_000_000;
     is_refused(watch, refused::OPERAND, TICK, 1);

@@ -1,6 +1,6 @@
 //! Lent states that are broken in exactly one of the ways that answer 12 lists.
 
-use second::{Fault, Parts, LAST_SLEEPER, LAST_TICK, NOBODY};
+use second::{Fault, Parts, LAST_EXPIRY, LAST_SLEEPER, LAST_TICK, NOBODY, TIMERS};
 
 use crate::answer::Answer;
 use crate::bytes::Numbers;
@@ -14,7 +14,7 @@ use crate::state;
 /// Breaks the state in one way; says No, with the state as it was, where the state has nothing to break so.
 pub type Break = fn(&mut Parts, &mut Random) -> bool;
 
-pub const WAYS: [(&str, Break); 26] = [
+pub const WAYS: [(&str, Break); 31] = [
     ("plan fails 1: no thread", no_thread),
     ("plan fails 1: too many threads", too_many_threads),
     ("plan fails 1: too many sections", |p, r| {
@@ -25,25 +25,43 @@ pub const WAYS: [(&str, Break); 26] = [
     ("thread not below T in the line", |p, r| listed_beyond(&mut p.line, p.threads, r)),
     ("thread not below T in the holds", holder_beyond),
     ("thread not below T in the waits", |p, r| listed_beyond(&mut p.waits, p.threads, r)),
-    ("thread not below T reported", |p, r| set(&mut p.given, not_nobody(r, p.threads))),
+    ("thread not below T reported", |p, r| {
+        let any = r.between(p.threads, 254);
+        set(&mut p.given, r.pick(&[p.threads, any, 254]) as u16)
+    }),
     ("thread not below T in a report", |p, r| {
-        due_with(p, r, |r, t| (r.between(16, 20) as u8, not_nobody(r, t)))
+        due_with(p, r, |r, t| (r.between(16, 20) as u8, out_of(r, t)))
     }),
     ("nobody in a report that is no Switch", |p, r| {
-        due_with(p, r, |r, _| (r.pick(&[16, 18, 19, 20]), NOBODY))
+        due_with(p, r, |r, _| (r.pick(&[16, 18, 19, 20, 21]), NOBODY))
     }),
     ("section not below S in the holds", section_beyond),
     ("section not below S waited for", waited_beyond),
-    ("report not of the paper", |p, r| {
-        due_with(p, r, |r, t| (r.pick(&[0, 1, 7, 15, 21, 255]), r.below(t) as u16))
+    ("timer not below 8 in a report", |p, r| {
+        due_with(p, r, |r, _| (21, out_of(r, TIMERS)))
     }),
-    ("stored rule not of the paper", |p, r| {
-        set(&mut p.stored, r.pick(&[1, 7, 12, 20, 31, 32, 255]))
+    ("report not of the papers", |p, r| {
+        due_with(p, r, |r, _| (r.pick(&[0, 1, 7, 8, 11, 15, 23, 24, 255]), 0))
+    }),
+    ("stored rule not of the papers", |p, r| {
+        set(&mut p.stored, r.pick(&[1, 7, 12, 20, 33, 34, 255]))
     }),
     ("tick number too great", |p, r| {
         set(&mut p.tick, LAST_TICK + r.pick(&[1, 2, 65536, 294_967_295]))
     }),
     ("sleeper's tick number too great", sleeper_beyond),
+    ("expiry too great", |p, r| {
+        put(&mut p.timers, r, |r| (LAST_EXPIRY + r.pick(&[1, 2, 65536, 294_901_760]), r.word()))
+    }),
+    ("timer of an arming not below 8, after Arm", |p, r| {
+        set(&mut p.arming, (1, out_of_byte(r, TIMERS), 0))
+    }),
+    ("timer of an arming not below 8, after Start", |p, r| {
+        set(&mut p.arming, (2, out_of_byte(r, TIMERS), r.word()))
+    }),
+    ("arming at no stage", |p, r| {
+        set(&mut p.arming, (out_of_byte(r, 3), r.below(TIMERS) as u8, r.word()))
+    }),
     ("section held twice", held_twice),
     ("thread twice in the line", |p, r| listed_twice(&mut p.line, r)),
     ("thread twice in the waits", |p, r| listed_twice(&mut p.waits, r)),
@@ -52,7 +70,7 @@ pub const WAYS: [(&str, Break); 26] = [
     ("thread in no condition: ready, not in the line", |p, r| remove(&mut p.line, r)),
     ("thread in no condition: waiting, not in the waits", |p, r| remove(&mut p.waits, r)),
     ("thread in two conditions", in_two),
-    ("more than T + 1 due", too_many_due),
+    ("more than T + 9 due", too_many_due),
 ];
 
 /// A state with one break, and one step on it: both answer 12 and change nothing.
@@ -150,10 +168,17 @@ fn beyond(random: &mut Random, bound: usize) -> Option<u16> {
     Some(random.pick(&[bound, any, greatest]) as u16)
 }
 
-/// A number from the bound on that fits the library's byte, but not the one that it takes for nobody.
-fn not_nobody(random: &mut Random, bound: usize) -> u16 {
-    let any = random.between(bound, 254);
-    random.pick(&[bound, any, 254]) as u16
+/// An operand from the bound on that is not nobody, often one whose low byte is below it.
+fn out_of(random: &mut Random, bound: usize) -> u16 {
+    let any = random.between(bound, 65534);
+    let low = 256 + random.below(bound);
+    random.pick(&[bound, low, any, 255, 65534]) as u16
+}
+
+/// A byte from the bound on.
+fn out_of_byte(random: &mut Random, bound: usize) -> u8 {
+    let any = random.between(bound, 255);
+    random.pick(&[bound, any, 255]) as u8
 }
 
 /// With nobody in any list, so that nothing else is out of range.
@@ -164,6 +189,7 @@ fn no_thread(parts: &mut Parts, _: &mut Random) -> bool {
         tick,
         stored,
         given: NOBODY,
+        timers: parts.timers,
         ..Parts::default()
     };
     true
@@ -278,12 +304,13 @@ fn in_two(parts: &mut Parts, random: &mut Random) -> bool {
     }
 }
 
-/// The library's array holds 17, which is T + 1 for 16 threads; more than that is among the lengths beyond the room.
+/// The library's array holds T + 9 for 16 threads; more than that is among the lengths beyond the room.
 fn too_many_due(parts: &mut Parts, random: &mut Random) -> bool {
     if parts.threads >= 16 {
         return false;
     }
-    let number = random.between(parts.threads + 2, 17);
+    let (one_more, any) = (parts.threads + 10, random.between(parts.threads + 10, state::REPORTS));
+    let number = random.pick(&[one_more, any]);
     parts.due = (0..number).map(|_| some_report(parts.threads, random)).collect();
     true
 }

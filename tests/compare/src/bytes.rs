@@ -1,4 +1,4 @@
-//! Plans, dumps and call lists as bytes, written here from document 01 and not by either side.
+//! Plans, dumps and call lists as bytes, written here from the documents and not by either side.
 
 /// A record as its kind and operand.
 pub type Numbers = (u8, u16);

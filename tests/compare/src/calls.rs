@@ -1,12 +1,12 @@
 //! Every call list up to some length over the smallest plans: with the reports left to the bench, it reaches further than records do.
 
 use beltcairn::{Verdict, Written};
-use second::Fault;
+use second::{Fault, Reply};
 
 use crate::answer::Answer;
 use crate::bytes::{list, records_of, Numbers};
 use crate::difference::{differ, Compared, Input};
-use crate::enumerate::alphabet;
+use crate::enumerate::Small;
 use crate::family::Family;
 use crate::sides::{bench, check, Pair};
 
@@ -16,17 +16,17 @@ pub struct Calls<'a> {
     family: Family,
 }
 
-/// A list admitted so far: both watch states behind it, its calls, and the number of its records.
+/// A list admitted so far, perhaps up to somewhere inside an arming: both watch states behind it, its calls, and its records.
 struct Admitted {
     pair: Pair,
     calls: Vec<Numbers>,
-    records: usize,
+    records: Vec<Numbers>,
 }
 
 impl<'a> Calls<'a> {
-    pub fn new(plan: &'a [u8], name: &str) -> Calls<'a> {
-        let alphabet = alphabet(plan).into_iter().filter(|(kind, _)| *kind < 16).collect();
-        let family = Family::new(name);
+    pub fn new(small: &'a Small, name: &str) -> Calls<'a> {
+        let alphabet = small.alphabet().into_iter().filter(|(kind, _)| *kind < 16).collect();
+        let (plan, family) = (&small.plan, Family::new(name));
         Calls { plan, alphabet, family }
     }
 
@@ -34,8 +34,9 @@ impl<'a> Calls<'a> {
     pub fn family_of(mut self, length: usize) -> Family {
         match Pair::begin(Fault::None, self.plan) {
             Ok(begun) => {
-                let (pair, calls) = (begun.expect("the plans here pass"), Vec::new());
-                self.below(&Admitted { pair, calls, records: 0 }, length);
+                let pair = begun.expect("the plans here pass");
+                let (calls, records) = (Vec::new(), Vec::new());
+                self.below(&Admitted { pair, calls, records }, length);
             }
             Err(difference) => self.family.count(Err(difference)),
         }
@@ -60,11 +61,11 @@ impl<'a> Calls<'a> {
 
     /// The list by both benches, its dump by both whole checks, and the records of its last call by both live steps.
     fn one(&self, admitted: &Admitted, calls: Vec<Numbers>) -> Compared<(Answer, Option<Admitted>)> {
-        // A call brings at most a report for each thread and a Switch.
-        let room = 2 + 3 * (admitted.records + 2 + usize::from(self.plan[0]));
+        // A call brings at most a report for each thread, one for each of eight timers, and a Switch.
+        let room = 2 + 3 * (admitted.records.len() + 10 + usize::from(self.plan[0]));
         let (written, out) = bench(Fault::None, self.plan, &list(&calls), room)?;
         let Written::Wrote(number) = written else {
-            return Ok((written.into(), None));
+            return Ok((written.into(), self.inside_an_arming(admitted, calls)?));
         };
         let dump = &out[..2 + 3 * number as usize];
         let verdict = check(Fault::None, self.plan, dump)?;
@@ -74,10 +75,22 @@ impl<'a> Calls<'a> {
         }
         let mut pair = admitted.pair.clone();
         let records = records_of(dump).unwrap_or_default();
-        for number in admitted.records + 1..=records.len() {
+        for number in admitted.records.len() + 1..=records.len() {
             pair.step_last(self.plan, &records[..number])?;
         }
-        let records = records.len();
         Ok((written.into(), Some(Admitted { pair, calls, records })))
+    }
+
+    /// A list that is refused goes on where its last call is an Arm or a Start that the live steps let pass.
+    fn inside_an_arming(&self, admitted: &Admitted, calls: Vec<Numbers>) -> Compared<Option<Admitted>> {
+        let last = calls[calls.len() - 1];
+        if ![8, 9].contains(&last.0) {
+            return Ok(None);
+        }
+        let mut pair = admitted.pair.clone();
+        let records = [&admitted.records[..], &[last]].concat();
+        let reply = pair.step_last(self.plan, &records)?;
+        let passes = matches!(reply, Reply::Clean { .. });
+        Ok(passes.then_some(Admitted { pair, calls, records }))
     }
 }

@@ -1,17 +1,23 @@
 //! Random dumps: honest, cut short, damaged in a record or a byte, and random bytes.
 
 use beltcairn::Verdict;
-use second::{Fault, MOST_RECORDS};
+use second::{Fault, MOST_RECORDS, TIMERS};
 
 use crate::answer::Answer;
 use crate::bytes::{list, Numbers};
 use crate::difference::{differ, Compared};
+use crate::lent::some_count;
 use crate::random::Random;
-use crate::runs::{plan, run, Run};
+use crate::runs::{period, plan, run, start, Run};
 use crate::sides::{begin, check, steps, watched};
 
 /// A dump as long as one may be.
 pub const LONGEST: Answer = Answer::Showed("of 20,000 records");
+
+/// A dump in which a timer expires, one that has a count lost, and one that ends inside an arming.
+pub const EXPIRY: Answer = Answer::Showed("with an expiry");
+pub const LATE: Answer = Answer::Showed("with a count lost");
+pub const INSIDE: Answer = Answer::Showed("clean, ending inside an arming");
 
 /// One dump in this many is also stepped through record by record.
 const STEPPED_ONE_IN: usize = 4;
@@ -27,8 +33,11 @@ pub fn honest(fault: Fault, random: &mut Random) -> Compared<Vec<Answer>> {
     if random.one_in(STEPPED_ONE_IN) {
         steps(fault, &plan, &records)?;
     }
-    let longest = (records.len() == MOST_RECORDS).then_some(LONGEST);
-    Ok([verdict.into()].into_iter().chain(longest).collect())
+    let mut answers = vec![verdict.into()];
+    answers.extend((records.len() == MOST_RECORDS).then_some(LONGEST));
+    answers.extend(records.iter().any(|(kind, _)| *kind == 21).then_some(EXPIRY));
+    answers.extend(records.iter().any(|(kind, count)| *kind == 22 && *count > 0).then_some(LATE));
+    Ok(answers)
 }
 
 /// A dump cut behind a record, or somewhere in its bytes.
@@ -40,7 +49,10 @@ pub fn cut(fault: Fault, random: &mut Random) -> Compared<Vec<Answer>> {
         return compared(fault, &plan, &dump);
     }
     records.truncate(random.below(records.len() + 1));
-    both_ways(fault, &plan, &records, random)
+    let mut answers = both_ways(fault, &plan, &records, random)?;
+    let inside = records.last().is_some_and(|(kind, _)| [8, 9].contains(kind));
+    answers.extend((inside && answers == [Answer::Clean]).then_some(INSIDE));
+    Ok(answers)
 }
 
 /// A dump with one record replaced, dropped or repeated, or two swapped.
@@ -113,7 +125,7 @@ fn any_bytes(random: &mut Random, most: usize) -> Vec<u8> {
 fn any_records(random: &mut Random) -> Vec<Numbers> {
     let length = random.below(4);
     (0..length)
-        .map(|_| (random.below(24) as u8, random.pick(&[0, 0, 0, 1, 2, 65535, 256])))
+        .map(|_| (random.below(25) as u8, random.pick(&[0, 0, 0, 1, 2, 65535, 256])))
         .collect()
 }
 
@@ -142,7 +154,7 @@ fn damage(records: &mut Vec<Numbers>, plan: &[u8], random: &mut Random) {
         1 => records.swap(place, next),
         2 => drop(records.remove(place)),
         3 => records.insert(place, records[place]),
-        4 => records[place].1 = random.pick(&[0, 0, 1, 2, 65535]),
+        4 => records[place].1 = random.pick(&[0, 0, 1, 2, 65535, records[place].1 ^ 256]),
         _ => records[place] = allowed_record(plan, random),
     }
 }
@@ -151,12 +163,16 @@ fn damage(records: &mut Vec<Numbers>, plan: &[u8], random: &mut Random) {
 pub fn allowed_record(plan: &[u8], random: &mut Random) -> Numbers {
     let (threads, sections) = (usize::from(plan[0]), usize::from(plan[1]));
     loop {
-        let kind = random.pick(&[1, 2, 3, 4, 5, 6, 7, 16, 17, 18, 19, 20]);
+        let kind = random.pick(&[1, 2, 3, 4, 5, 6, 7, 8, 9, 10, 11, 16, 17, 18, 19, 20, 21, 22]);
         return match kind {
             2 => (kind, random.between(1, 3) as u16),
             3 | 4 | 7 => (kind, 0),
             5 | 6 if sections == 0 => continue,
             5 | 6 => (kind, random.below(sections) as u16),
+            8 | 11 | 21 => (kind, random.below(TIMERS) as u16),
+            9 => (kind, start(0, random)),
+            10 => (kind, period(random)),
+            22 => (kind, some_count(random)),
             17 if random.one_in(3) => (kind, 65535),
             _ => (kind, random.below(threads) as u16),
         };

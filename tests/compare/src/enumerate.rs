@@ -3,7 +3,7 @@
 use beltcairn::Verdict;
 use second::{Fault, Reply};
 
-use crate::answer::Answer;
+use crate::answer::{breaches, Answer};
 use crate::bytes::{list, plan, Numbers};
 use crate::difference::{differ, Compared, Difference};
 use crate::family::Family;
@@ -14,6 +14,8 @@ use crate::sides::{check, watched, Pair};
 pub struct Small {
     pub name: &'static str,
     pub plan: Vec<u8>,
+    /// Timers from 0 on that its records name; with none there are no records of timers.
+    pub timers: u16,
     pub records: [usize; 2],
     pub calls: [usize; 2],
 }
@@ -30,6 +32,9 @@ pub fn plans() -> Vec<Small> {
         small("2 threads, 1 of 2 sections shared", plan(2, &[1, 2], &[1, 3]), [11, 13], [7, 8]),
         small("3 threads, 1 section", plan(1, &[1, 2, 3], &[1, 1, 1]), [10, 13], [7, 8]),
         small("3 threads, 2 equal, 1 section", plan(1, &[1, 2, 2], &[1, 1, 1]), [10, 13], [7, 8]),
+        small("1 thread, 1 timer", plan(0, &[1], &[0]), [12, 14], [8, 9]).with_timers(1),
+        small("1 thread, 2 timers", plan(0, &[1], &[0]), [11, 13], [8, 9]).with_timers(2),
+        small("2 threads, 1 section, 1 timer", plan(1, &[1, 2], &[1, 1]), [10, 12], [6, 7]).with_timers(1),
     ]
 }
 
@@ -37,27 +42,46 @@ fn small(name: &'static str, plan: Vec<u8>, records: [usize; 2], calls: [usize; 
     Small {
         name,
         plan,
+        timers: 0,
         records,
         calls,
     }
 }
 
-/// Every allowed record under the plan, Delays of 1 and 2 only.
-pub fn alphabet(plan: &[u8]) -> Vec<Numbers> {
-    let (threads, sections) = (u16::from(plan[0]), u16::from(plan[1]));
-    let mut records = vec![(2, 1), (2, 2), (3, 0), (4, 0), (7, 0), (17, 65535)];
-    records.extend(
-        [1, 16, 17, 18, 19, 20]
-            .iter()
-            .flat_map(|kind| (0..threads).map(|thread| (*kind, thread))),
-    );
-    records.extend([5, 6].iter().flat_map(|kind| (0..sections).map(|section| (*kind, section))));
-    records
+impl Small {
+    fn with_timers(self, timers: u16) -> Small {
+        Small { timers, ..self }
+    }
+
+    /// Every allowed record under the plan: of Delays 1 and 2 only, of starts 1 and 2, of periods 0 to 2, of Lates 0 to 2 and one that is 0 in
+    /// its low byte.
+    pub fn alphabet(&self) -> Vec<Numbers> {
+        let (threads, sections) = (u16::from(self.plan[0]), u16::from(self.plan[1]));
+        let named = |kinds: &[u8], below: u16| -> Vec<Numbers> {
+            let kinds = kinds.iter().copied();
+            kinds.flat_map(|kind| (0..below).map(move |number| (kind, number))).collect()
+        };
+        let mut records = vec![(2, 1), (2, 2), (3, 0), (4, 0), (7, 0), (17, 65535)];
+        records.extend(named(&[1, 16, 17, 18, 19, 20], threads));
+        records.extend(named(&[5, 6], sections));
+        if self.timers > 0 {
+            records.extend(named(&[8, 11, 21], self.timers));
+            records.extend([(9, 1), (9, 2), (10, 0), (10, 1), (10, 2)]);
+            records.extend([(22, 0), (22, 1), (22, 2), (22, 256)]);
+        }
+        records
+    }
+
+    /// The rules that its lists reach.
+    pub fn rules(&self) -> Vec<Answer> {
+        let of_timers = if self.timers > 0 { breaches(31, 32) } else { Vec::new() };
+        [breaches(21, 22), breaches(28, 30), of_timers].concat()
+    }
 }
 
 /// How many lists there are up to that length; those that are not tried begin with one that was tried and has a breach.
-pub fn covered(plan: &[u8], length: usize) -> f64 {
-    let records = alphabet(plan).len() as f64;
+pub fn covered(small: &Small, length: usize) -> f64 {
+    let records = small.alphabet().len() as f64;
     (0..=length as i32).map(|power| records.powi(power)).sum()
 }
 
@@ -76,11 +100,11 @@ pub struct Walk<'a> {
 }
 
 impl<'a> Walk<'a> {
-    fn new(fault: Fault, plan: &'a [u8], name: &str, budget: u64, stops: bool) -> Walk<'a> {
+    fn new(fault: Fault, small: &'a Small, name: &str, budget: u64, stops: bool) -> Walk<'a> {
         Walk {
             fault,
-            plan,
-            alphabet: alphabet(plan),
+            plan: &small.plan,
+            alphabet: small.alphabet(),
             family: Family::new(name),
             random: Random::new(0),
             budget,
@@ -89,8 +113,8 @@ impl<'a> Walk<'a> {
     }
 
     /// All lists up to that length, every difference counted.
-    pub fn all(plan: &'a [u8], name: &str, length: usize) -> Family {
-        let mut walk = Walk::new(Fault::None, plan, name, u64::MAX, false);
+    pub fn all(small: &'a Small, name: &str, length: usize) -> Family {
+        let mut walk = Walk::new(Fault::None, small, name, u64::MAX, false);
         if let Err(difference) = walk.go(length) {
             walk.family.count(Err(difference));
         }
@@ -98,10 +122,10 @@ impl<'a> Walk<'a> {
     }
 
     /// The first difference in ever longer lists, with its length, if there is one among that many lists.
-    pub fn first(fault: Fault, plan: &'a [u8], budget: u64) -> Option<(usize, Box<Difference>)> {
+    pub fn first(fault: Fault, small: &'a Small, budget: u64) -> Option<(usize, Box<Difference>)> {
         let mut left = budget;
         for length in 1.. {
-            let mut walk = Walk::new(fault, plan, "", left, true);
+            let mut walk = Walk::new(fault, small, "", left, true);
             if let Err(difference) = walk.go(length) {
                 return Some((length, difference));
             }

@@ -98,7 +98,7 @@ fn try_known(fault: Fault, found: &mut Found) {
 fn try_lists(fault: Fault, found: &mut Found) {
     let mut lengths = Vec::new();
     for small in plans() {
-        if let Some((length, difference)) = Walk::first(fault, &small.plan, ENUMERATED) {
+        if let Some((length, difference)) = Walk::first(fault, &small, ENUMERATED) {
             lengths.push(length.to_string());
             found.keep(difference);
         }

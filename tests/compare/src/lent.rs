@@ -1,13 +1,16 @@
 //! Lent states: those that a run reaches, and well-formed ones that none does.
 
-use second::{Fault, Parts, Plan, Watch, LAST_SLEEPER, LAST_TICK, NOBODY};
+use second::{Fault, Parts, Plan, Reply, Watch, LAST_EXPIRY, LAST_SLEEPER, LAST_TICK, NOBODY, TIMERS};
 
 use crate::answer::Answer;
 use crate::bytes::Numbers;
 use crate::difference::Compared;
 use crate::random::Random;
-use crate::runs::{plan, run, Run};
+use crate::runs::{period, plan, run, some_timer, start, Run};
 use crate::sides::Pair;
+
+/// A Period after which the count lost is the greatest that is written; no dump has so many Ticks.
+pub const CUT: Answer = Answer::Showed("a count of 65535");
 
 /// A few steps on a state that a run reaches.
 pub fn reached(fault: Fault, random: &mut Random) -> Compared<Vec<Answer>> {
@@ -26,7 +29,12 @@ fn some_steps(fault: Fault, parts: &Parts, random: &mut Random) -> Compared<Vec<
     let mut answers = Vec::new();
     for _ in 0..random.between(1, 6) {
         let record = some_record(pair.parts(), random);
-        answers.push(pair.step(record)?.into());
+        let reply = pair.step(record)?;
+        answers.push(reply.into());
+        let clean = matches!(reply, Reply::Clean { .. });
+        if clean && record.0 == 10 && pair.parts().due.first() == Some(&(22, 65535)) {
+            answers.push(CUT);
+        }
     }
     Ok(answers)
 }
@@ -42,7 +50,8 @@ pub fn reached_parts(random: &mut Random) -> Parts {
     watch.parts().clone()
 }
 
-/// A state that question 12 lets pass: any conditions, with line and waits in any order, any holds, any reports due.
+/// A state that question 12 lets pass: any conditions, with line and waits in any order, any holds, any timers, an arming at any stage, any
+/// reports due.
 pub fn formed_parts(random: &mut Random) -> Parts {
     let plan = plan(random);
     formed_under(&plan, random)
@@ -53,7 +62,7 @@ pub fn formed_under(plan: &[u8], random: &mut Random) -> Parts {
     let (threads, sections) = (plan.threads(), plan.sections());
     let tick = some_tick(random);
     let conditions: Vec<(u8, u64)> = (0..threads).map(|_| some_condition(sections, tick, random)).collect();
-    let stored = if random.one_in(8) { random.between(21, 30) as u8 } else { 0 };
+    let stored = if random.one_in(8) { random.between(21, 32) as u8 } else { 0 };
     Parts {
         threads,
         sections,
@@ -64,6 +73,8 @@ pub fn formed_under(plan: &[u8], random: &mut Random) -> Parts {
         waits: shuffled(&conditions, 3, random),
         conditions,
         holds: some_holds(threads, sections, random),
+        timers: std::array::from_fn(|_| timer(tick, random)),
+        arming: some_arming(tick, random),
         given: some_thread_or_nobody(threads, random),
         due: some_due(threads, random),
         stored,
@@ -71,9 +82,10 @@ pub fn formed_under(plan: &[u8], random: &mut Random) -> Parts {
 }
 
 fn some_tick(random: &mut Random) -> u64 {
-    match random.below(4) {
+    match random.below(5) {
         0 => LAST_TICK - random.below(3) as u64,
         1 => random.number() % (LAST_TICK + 1),
+        2 => 65535 + random.below(3) as u64,
         _ => random.below(10) as u64,
     }
 }
@@ -94,6 +106,36 @@ fn some_wake(tick: u64, random: &mut Random) -> u64 {
         1 => random.number() % (LAST_SLEEPER + 1),
         2 => tick.saturating_sub(random.below(3) as u64),
         _ => tick + random.between(1, 2) as u64,
+    }
+}
+
+/// Its expiry and period; half of them are not armed.
+fn timer(tick: u64, random: &mut Random) -> (u64, u16) {
+    let expiry = match random.below(16) {
+        0 => LAST_EXPIRY,
+        1 => random.number() % (LAST_EXPIRY + 1),
+        2 => tick.saturating_sub(random.below(3) as u64),
+        3..=7 => tick + random.between(1, 2) as u64,
+        _ => 0,
+    };
+    if expiry == 0 {
+        (0, 0)
+    } else {
+        (expiry, period(random))
+    }
+}
+
+fn some_arming(tick: u64, random: &mut Random) -> (u8, u8, u16) {
+    let timer = some_timer(random) as u8;
+    match random.below(10) {
+        0 => (1, timer, 0),
+        // No Start is 0, but 12 does not ask.
+        1 if random.one_in(8) => (2, timer, 0),
+        1 => {
+            let close = start(tick, random);
+            (2, timer, random.pick(&[1, 2, close, close]))
+        }
+        _ => (0, 0, 0),
     }
 }
 
@@ -121,39 +163,61 @@ fn some_thread_or_nobody(threads: usize, random: &mut Random) -> u16 {
 }
 
 fn some_due(threads: usize, random: &mut Random) -> Vec<(u8, u16)> {
-    let number = if random.one_in(3) { random.between(1, threads + 1) } else { 0 };
+    let number = if random.one_in(3) { random.between(1, threads + 9) } else { 0 };
     (0..number).map(|_| some_report(threads, random)).collect()
 }
 
 pub fn some_report(threads: usize, random: &mut Random) -> (u8, u16) {
-    match random.between(16, 20) as u8 {
+    match random.between(16, 22) as u8 {
         17 => (17, some_thread_or_nobody(threads, random)),
+        21 => (21, random.below(TIMERS) as u16),
+        22 => (22, some_count(random)),
         kind => (kind, random.below(threads) as u16),
     }
 }
 
-/// A record for a step: often the report that is due, or a call with a fitting operand; now and then any numbers at all.
+pub fn some_count(random: &mut Random) -> u16 {
+    let any = random.word();
+    random.pick(&[0, 0, 1, 2, 256, 65535, any])
+}
+
+/// A record for a step: often the report that is due or the next call of an arming, or a call with a fitting operand; now and then any
+/// numbers at all.
 pub fn some_record(parts: &Parts, random: &mut Random) -> Numbers {
     let threads = parts.threads.clamp(1, 16);
-    match (random.below(12), parts.due.first()) {
-        (0, _) => (random.byte(), random.word()),
-        (1, _) => (
-            random.between(0, 21) as u8,
-            random.pick(&[0, 1, threads as u16, parts.sections as u16, 256, NOBODY]),
+    match (random.below(12), parts.arming.0, parts.due.first()) {
+        (0, ..) => (random.byte(), random.word()),
+        (1, ..) => (
+            random.between(0, 23) as u8,
+            random.pick(&[0, 1, 8, threads as u16, parts.sections as u16, 256, NOBODY]),
         ),
-        (2..=3, _) => some_report(threads, random),
-        (4..=8, Some(report)) => *report,
-        (9, Some((kind, _))) => (*kind, random.below(threads) as u16),
+        (2..=3, ..) => some_report(threads, random),
+        (4..=6, 1, _) => (9, start(parts.tick, random)),
+        (4..=6, 2, _) => (10, period(random)),
+        (4..=8, _, Some(report)) => *report,
+        (9, _, Some((kind, operand))) => (*kind, otherwise(*operand, threads, random)),
         _ => some_call(parts, threads, random),
     }
 }
 
+/// Another operand for a report, at times alike in its low byte.
+fn otherwise(operand: u16, threads: usize, random: &mut Random) -> u16 {
+    if random.one_in(4) {
+        operand ^ 256
+    } else {
+        random.below(threads) as u16
+    }
+}
+
 fn some_call(parts: &Parts, threads: usize, random: &mut Random) -> Numbers {
-    match random.pick(&[1, 2, 3, 4, 5, 5, 6, 6, 6, 7]) {
+    match random.pick(&[1, 2, 3, 4, 5, 5, 6, 6, 6, 7, 7, 8, 8, 9, 10, 11, 11]) {
         1 => (1, random.below(threads) as u16),
         2 => (2, random.pick(&[1, 1, 2, 256, 65535])),
         6 if !parts.holds.is_empty() => (6, random.pick(&parts.holds).0),
         kind @ (5 | 6) => (kind, random.below(parts.sections.max(1)) as u16),
+        9 => (9, start(parts.tick, random)),
+        10 => (10, period(random)),
+        kind @ (8 | 11) => (kind, random.below(TIMERS) as u16),
         kind => (kind, 0),
     }
 }

@@ -87,11 +87,24 @@ fn some_calls(random: &mut Random) -> (Vec<u8>, Vec<Numbers>) {
         }
         calls.insert(place, other);
     }
+    match random.below(12) {
+        0 => calls.truncate(random.below(calls.len() + 1)),
+        1 => end_inside_an_arming(&mut calls, random),
+        _ => {}
+    }
     if random.one_in(40) && !calls.is_empty() {
         let place = random.below(calls.len());
         calls[place].1 = random.word();
     }
     (plan, calls)
+}
+
+/// Cuts the list behind an Arm or a Start, if it has one.
+fn end_inside_an_arming(calls: &mut Vec<Numbers>, random: &mut Random) {
+    let places: Vec<usize> = (0..calls.len()).filter(|place| [8, 9].contains(&calls[*place].0)).collect();
+    if !places.is_empty() {
+        calls.truncate(random.pick(&places) + 1);
+    }
 }
 
 /// Two equal threads that relinquish, three records each time, with about 20,000 records in all.

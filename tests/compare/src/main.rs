@@ -127,9 +127,9 @@ fn every_list(tally: &mut Tally, long: bool) {
     for small in plans() {
         let length = small.records[usize::from(long)];
         let name = format!("every list, {}, up to {length} records", small.name);
-        let family = Walk::all(&small.plan, &name, length);
-        tally.take(&family, &[CLEAN.to_vec(), breaches(21, 22), breaches(28, 30)].concat());
-        println!("    with what their breaches decide, {:.3e} lists", covered(&small.plan, length));
+        let family = Walk::all(&small, &name, length);
+        tally.take(&family, &[CLEAN.to_vec(), small.rules()].concat());
+        println!("    with what their breaches decide, {:.3e} lists", covered(&small, length));
         lists += family.inputs;
     }
     println!("enumerated: {lists} lists of records in {} s", started.elapsed().as_secs());
@@ -140,7 +140,7 @@ fn every_call_list(tally: &mut Tally, long: bool) {
     for small in plans() {
         let length = small.calls[usize::from(long)];
         let name = format!("every call list, {}, up to {length} calls", small.name);
-        let family = Calls::new(&small.plan, &name).family_of(length);
+        let family = Calls::new(&small, &name).family_of(length);
         tally.take(&family, &[Answer::Written, Answer::Refused(9)]);
         lists += family.inputs;
     }
@@ -148,20 +148,22 @@ fn every_call_list(tally: &mut Tally, long: bool) {
 }
 
 fn random_dumps(tally: &mut Tally, inputs: u64) {
-    tally.random("honest", dumps::honest, inputs, &[Answer::Clean, dumps::LONGEST]);
-    tally.random("cut short", dumps::cut, inputs, &[CLEAN.to_vec(), refusals(&[5, 6])].concat());
+    let shown = [Answer::Clean, dumps::LONGEST, dumps::EXPIRY, dumps::LATE];
+    tally.random("honest", dumps::honest, inputs, &shown);
+    let cut = [CLEAN.to_vec(), vec![dumps::INSIDE], refusals(&[5, 6])].concat();
+    tally.random("cut short", dumps::cut, inputs, &cut);
     tally.random(
         "damaged in a record",
         dumps::damaged_record,
         inputs,
-        &[CLEAN.to_vec(), breaches(21, 30), refusals(&[8])].concat(),
+        &[CLEAN.to_vec(), breaches(21, 32), refusals(&[8])].concat(),
     );
-    let everything = [CLEAN.to_vec(), breaches(21, 30), refusals(&[1, 2, 3, 4, 5, 6, 7, 8])].concat();
+    let everything = [CLEAN.to_vec(), breaches(21, 32), refusals(&[1, 2, 3, 4, 5, 6, 7, 8])].concat();
     tally.random("damaged in a byte", dumps::damaged_byte, inputs, &everything);
     let early = [
         CLEAN.to_vec(),
         breaches(21, 22),
-        breaches(28, 30),
+        breaches(28, 31),
         refusals(&[1, 2, 3, 4, 5, 6, 7, 8]),
     ]
     .concat();
@@ -181,13 +183,13 @@ fn bench_lists(tally: &mut Tally, inputs: u64) {
 }
 
 fn lent_states(tally: &mut Tally, scale: &Scale) {
-    let wanted = [CLEAN.to_vec(), breaches(21, 30), refusals(&[7, 8])].concat();
+    let wanted = [CLEAN.to_vec(), breaches(21, 32), refusals(&[7, 8])].concat();
     tally.random("lent, reached", lent::reached, scale.lent / 4, &wanted);
     tally.random(
         "lent, well-formed",
         lent::well_formed,
         scale.lent,
-        &[wanted, refusals(&[13])].concat(),
+        &[wanted, refusals(&[13]), vec![lent::CUT]].concat(),
     );
     for (name, break_it) in broken::WAYS {
         let mut family = Family::new(&format!("lent, broken: {name}"));

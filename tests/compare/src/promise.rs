@@ -11,11 +11,12 @@ use crate::runs::{sized_plan, sized_run, Mood, Run};
 use crate::sides::{check, watched};
 
 /// What the sample must have shown at least once, so that no part of demand 3 held for want of a case.
-pub const WANTED: [Answer; 4] = [
+pub const WANTED: [Answer; 5] = [
     Answer::Showed("a thread waits"),
     Answer::Showed("a lower thread calls in a wait"),
     Answer::Showed("a lower thread calls in an activation"),
     Answer::Showed("with a Give of its own before"),
+    Answer::Showed("the call is of timers"),
 ];
 
 /// A clean dump, or the records before a breach, keeps all four parts of demand 3.
@@ -29,7 +30,13 @@ pub fn kept(fault: Fault, random: &mut Random) -> Compared<Vec<Answer>> {
         Ok(seen) => seen,
         Err(text) => return differ(watched(&plan, &list(&records)), verdict, text),
     };
-    let counts = [seen.waits, seen.calls_in_waits, seen.calls_while_active, seen.gives_between];
+    let counts = [
+        seen.waits,
+        seen.calls_in_waits,
+        seen.calls_while_active,
+        seen.gives_between,
+        seen.timer_calls,
+    ];
     Ok(WANTED
         .into_iter()
         .zip(counts)

@@ -1,6 +1,6 @@
 //! Random plans, and random runs that a kernel keeping the rules could have made.
 
-use second::{broken_rule, Call, Fault, Machine, Plan, Record, MOST_RECORDS};
+use second::{broken_rule, Arming, Call, Fault, Machine, Plan, Record, MOST_RECORDS, TIMERS};
 
 use crate::bytes::{self, Numbers};
 use crate::random::Random;
@@ -44,21 +44,31 @@ fn needs(random: &mut Random, sections: usize, density: usize) -> u16 {
     bits & allowed
 }
 
-/// How often each kind of call is tried, kinds 1 to 7 in order.
-pub struct Mood([usize; 7]);
+/// The kinds that a mood chooses from. Start and Period are no choice: they follow an Arm.
+const KINDS: [u8; 9] = [1, 2, 3, 4, 5, 6, 7, 8, 11];
+
+/// How often each of those kinds is tried.
+pub struct Mood([usize; KINDS.len()]);
 
 impl Mood {
     /// Many threads that take sections and seldom end, so that they meet.
     pub fn busy(random: &mut Random) -> Mood {
-        Mood([6, 1, 2, random.below(2), 8, 3, 2])
+        Mood([6, 1, 2, random.below(2), 8, 3, 2, random.below(3), random.below(2)])
     }
 
-    /// Busy with sections in half of the runs, and with anything in the others.
+    /// Ticks and timers before all else.
+    fn clockwork(random: &mut Random) -> Mood {
+        Mood([3, 2, 1, random.below(2), 1, 1, 8, 4, 1])
+    }
+
+    /// Busy with sections in half of the runs, with timers in some, and with anything in the others.
     pub fn any(random: &mut Random) -> Mood {
-        if random.one_in(2) {
-            return Mood::busy(random);
+        match random.below(8) {
+            0..=3 => return Mood::busy(random),
+            4..=5 => return Mood::clockwork(random),
+            _ => {}
         }
-        let mut weights = [0; 7];
+        let mut weights = [0; KINDS.len()];
         for weight in &mut weights {
             *weight = random.below(7);
         }
@@ -70,7 +80,7 @@ impl Mood {
 
     fn kind(&self, random: &mut Random) -> u8 {
         let mut left = random.below(self.0.iter().sum());
-        for (kind, weight) in (1..).zip(self.0) {
+        for (kind, weight) in KINDS.into_iter().zip(self.0) {
             if left < weight {
                 return kind;
             }
@@ -92,13 +102,15 @@ pub fn run(random: &mut Random) -> Run {
     sized_run(random, plan, &mood, length)
 }
 
-/// A run that ends with the reports of the call that brings it to that length; a dump of the greatest length ends there.
+/// A run that ends with the reports of the call that brings it to that length, and not inside an arming; a dump of the greatest length
+/// ends there.
 pub fn sized_run(random: &mut Random, plan: Vec<u8>, mood: &Mood, length: usize) -> Run {
     let known = Plan::read(&plan, Fault::None).expect("the plan was made to pass");
     let mut machine = Machine::new(known, Fault::None);
     let mut records = Vec::new();
-    while records.len() < length {
-        let call = admitted_call(&machine, mood, random);
+    while records.len() < length || machine.timers.arming != Arming::Idle {
+        let room = MOST_RECORDS.saturating_sub(records.len());
+        let call = admitted_call(&machine, mood, room, random);
         advance(&mut machine, Record::Call(call), &mut records);
         while let Some(report) = machine.due.front().copied() {
             advance(&mut machine, Record::Report(report), &mut records);
@@ -113,25 +125,59 @@ fn advance(machine: &mut Machine, record: Record, records: &mut Vec<Numbers>) {
     records.push(record.numbers());
 }
 
-fn admitted_call(machine: &Machine, mood: &Mood, random: &mut Random) -> Call {
+fn admitted_call(machine: &Machine, mood: &Mood, room: usize, random: &mut Random) -> Call {
     loop {
-        let call = candidate(machine, mood.kind(random), random);
+        let call = candidate(machine, mood, room, random);
         if let Some(call) = call.filter(|call| broken_rule(machine, Record::Call(*call)).is_none()) {
             return call;
         }
     }
 }
 
-/// A call of the kind, with an operand that stands a chance; nothing where none does.
-fn candidate(machine: &Machine, kind: u8, random: &mut Random) -> Option<Call> {
-    match kind {
+/// A call with an operand that stands a chance; nothing where none does. An arming has to fit the room, so that none is cut.
+fn candidate(machine: &Machine, mood: &Mood, room: usize, random: &mut Random) -> Option<Call> {
+    match machine.timers.arming {
+        Arming::Idle => {}
+        Arming::AfterArm(_) => return Some(Call::Start(start(machine.tick, random))),
+        Arming::AfterStart(..) => return Some(Call::Period(period(random))),
+    }
+    match mood.kind(random) {
         1 => Some(Call::Create(random.below(machine.plan.threads()))),
         2 => Some(Call::Delay(ticks(random))),
         3 => Some(Call::Relinquish),
         4 => Some(Call::End),
         5 => needed(machine, random).map(Call::Take),
         6 => machine.chosen().and_then(|caller| machine.taken_last(caller)).map(Call::Give),
-        _ => Some(Call::Tick),
+        7 => Some(Call::Tick),
+        8 => (room >= 3).then(|| Call::Arm(some_timer(random))),
+        _ => Some(Call::Cancel(some_timer(random))),
+    }
+}
+
+/// Often one of the first, so that an armed one is armed again or cancelled.
+pub fn some_timer(random: &mut Random) -> usize {
+    let any = random.below(TIMERS);
+    random.pick(&[0, 1, any])
+}
+
+/// A start close to the tick number more often than not, on either side of it.
+pub fn start(tick: u64, random: &mut Random) -> u16 {
+    let close = (tick + random.below(7) as u64).saturating_sub(3);
+    match random.below(12) {
+        0 => random.word().max(1),
+        1 => random.pick(&[1, 255, 256, 257, 65534, 65535]),
+        2 => random.between(1, 20) as u16,
+        _ => close.clamp(1, 65535) as u16,
+    }
+}
+
+pub fn period(random: &mut Random) -> u16 {
+    match random.below(16) {
+        0 => random.word(),
+        1 => random.pick(&[255, 256, 257, 65534, 65535]),
+        2 => random.between(4, 20) as u16,
+        3..=6 => 0,
+        _ => random.between(1, 3) as u16,
     }
 }
 

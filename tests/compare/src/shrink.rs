@@ -46,18 +46,24 @@ impl Story {
         })
     }
 
-    /// Leaves out a call, or behind the calls a thread, or behind those a section.
+    /// Leaves out a call, an arming as a whole, or behind the calls a thread, or behind those a section.
     fn without(&self, place: usize) -> Option<Story> {
         let mut fewer = self.clone();
         let behind_calls = place.checked_sub(self.calls.len());
         let behind_threads = behind_calls.and_then(|place| place.checked_sub(self.bases.len()));
         match (behind_calls, behind_threads) {
-            (None, _) => drop(fewer.calls.remove(place)),
+            (None, _) => fewer.leave_out_calls(place),
             (Some(thread), None) => fewer.leave_out_thread(thread),
             (_, Some(section)) if section < usize::from(self.sections) => fewer.leave_out_section(section),
             _ => return None,
         }
         Some(fewer)
+    }
+
+    fn leave_out_calls(&mut self, place: usize) {
+        let kinds: Vec<u8> = self.calls[place..].iter().map(|(kind, _)| *kind).take(3).collect();
+        let number = if kinds == [8, 9, 10] { 3 } else { 1 };
+        self.calls.drain(place..place + number);
     }
 
     fn leave_out_thread(&mut self, thread: usize) {

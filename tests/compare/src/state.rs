@@ -1,8 +1,8 @@
 //! Between the library's watch state and the second implementation's parts. Nothing else here knows the layout of the former.
 
 use beltcairn::packed::{numbers, word};
-use beltcairn::{Holds, Machine, Plan, Queue, Report, Reports, Slots, State, Watch};
-use second::{Parts, NOBODY};
+use beltcairn::{Arming, Holds, Machine, Plan, Queue, Report, Reports, Slots, State, Timers, Watch, ROOM};
+use second::{Parts, NOBODY, TIMERS};
 
 use crate::random::Random;
 
@@ -13,9 +13,12 @@ const NO_THREAD: u8 = 255;
 pub const ENTRIES: usize = 16;
 pub const GREATEST: u16 = 15;
 
+/// How many reports the library has room for.
+pub const REPORTS: usize = ROOM;
+
 /// The parts as a watch state of the library. What the parts leave open (entries behind a list's end, threads from T on, the section of a
-/// thread that does not wait, the tick number of one that is not asleep, reports already given) is filled at random: no answer may rest
-/// on it.
+/// thread that does not wait, the tick number of one that is not asleep, the period of a timer that is not armed, what an arming has not
+/// come to, reports already given) is filled at random: no answer may rest on it.
 pub fn lend(parts: &Parts, random: &mut Random) -> Watch {
     let machine = Machine {
         plan: plan(parts, random),
@@ -26,6 +29,7 @@ pub fn lend(parts: &Parts, random: &mut Random) -> Watch {
         holds: holds(&parts.holds, random),
         waits: queue(&parts.waits, random),
         reported: who(parts.given),
+        timers: timers(parts, random),
     };
     let (due, given) = reports(&parts.due, random);
     Watch {
@@ -38,7 +42,7 @@ pub fn lend(parts: &Parts, random: &mut Random) -> Watch {
 pub fn parts(watch: &Watch) -> Parts {
     let machine = &watch.state.machine;
     let threads = machine.plan.threads.min(16);
-    let due = &watch.state.due.items[..watch.state.due.count.min(17)];
+    let due = &watch.state.due.items[..watch.state.due.count.min(REPORTS)];
     Parts {
         threads: machine.plan.threads,
         sections: machine.plan.sections,
@@ -49,11 +53,13 @@ pub fn parts(watch: &Watch) -> Parts {
         line: threads_in(&machine.queue),
         holds: oldest_first(&machine.holds),
         waits: threads_in(&machine.waits),
+        timers: expiries_and_periods(&machine.timers),
+        arming: arming_in(&machine.timers.arming),
         given: named(machine.reported),
         due: due
             .iter()
             .skip(watch.state.given)
-            .map(|report| (report.kind, named(report.who)))
+            .map(|report| (report.kind, report.operand))
             .collect(),
         stored: watch.rule,
     }
@@ -79,8 +85,8 @@ pub const LENGTHS: [(&str, Lengthen); 4] = [
         watch.state.machine.holds.count = ENTRIES + excess
     }),
     ("reports longer than their array", |watch, excess| {
-        watch.state.due.count = 17 + excess;
-        watch.state.given = watch.state.given.min(17);
+        watch.state.due.count = REPORTS + excess;
+        watch.state.given = watch.state.given.min(REPORTS);
     }),
 ];
 
@@ -172,21 +178,58 @@ fn oldest_first(holds: &Holds) -> Vec<(u16, u16)> {
     list
 }
 
+/// A timer that is not armed has any period.
+fn timers(parts: &Parts, random: &mut Random) -> Timers {
+    Timers {
+        expiries: std::array::from_fn(|timer| parts.timers[timer].0 as u32),
+        periods: std::array::from_fn(|timer| match parts.timers[timer] {
+            (0, _) => random.word(),
+            (_, period) => period,
+        }),
+        arming: arming(parts.arming, random),
+    }
+}
+
+/// With no arming any timer, also one that is not below 8; but after a Start any start.
+fn arming((stage, timer, start): (u8, u8, u16), random: &mut Random) -> Arming {
+    let any = random.byte();
+    Arming {
+        stage,
+        timer: if stage == 0 { random.pick(&[any, any % 8]) } else { timer },
+        start: if stage == 2 { start } else { random.word() },
+    }
+}
+
+fn expiries_and_periods(timers: &Timers) -> [(u64, u16); TIMERS] {
+    std::array::from_fn(|timer| match timers.expiries[timer] {
+        0 => (0, 0),
+        expiry => (expiry.into(), timers.periods[timer]),
+    })
+}
+
+fn arming_in(arming: &Arming) -> (u8, u8, u16) {
+    match arming.stage {
+        0 => (0, 0, 0),
+        1 => (1, arming.timer, 0),
+        stage => (stage, arming.timer, arming.start),
+    }
+}
+
 /// The reports and how many of them are given. With none due, any number from their count on says so.
 fn reports(due: &[(u8, u16)], random: &mut Random) -> (Reports, usize) {
-    let given = random.below(17usize.saturating_sub(due.len()) + 1);
-    let mut items: [Report; 17] = std::array::from_fn(|_| Report {
+    let given = random.below(REPORTS.saturating_sub(due.len()) + 1);
+    let mut items: [Report; REPORTS] = std::array::from_fn(|_| Report {
         kind: random.byte(),
-        who: random.byte(),
+        operand: random.word(),
     });
-    for (place, (kind, thread)) in items[given..].iter_mut().zip(due) {
+    for (place, (kind, operand)) in items[given..].iter_mut().zip(due) {
         *place = Report {
             kind: *kind,
-            who: who(*thread),
+            operand: *operand,
         };
     }
     let beyond = if due.is_empty() {
-        random.pick(&[0, 0, 0, 1, 200, usize::MAX - 17])
+        random.pick(&[0, 0, 0, 1, 200, usize::MAX - REPORTS])
     } else {
         0
     };

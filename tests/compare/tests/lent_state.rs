@@ -1,13 +1,16 @@
 //! A state as it is lent to the library: what is in use stands where the header says, and what is not takes every number.
 
+use std::collections::BTreeSet;
+
 use beltcairn::packed::numbers;
 use beltcairn::Watch;
 use compare::random::Random;
-use compare::state::{lend, parts};
+use compare::state::{lend, parts, REPORTS};
 use second::Parts;
 
 /// Threads 2 and 0 in the line in this order, 1 asleep, 3 dormant, 5 and 4 waiting in this order for sections 2 and 0. Section 1 is taken
-/// by 2, and then 3 by 0.
+/// by 2, and then 3 by 0. Timer 1 expires at 300 and every 258 ticks, 6 is an alarm at 8. Timer 5 is being armed, from 515 on. Due are a Switch
+/// to nobody, an Expire and a Late.
 fn six_threads() -> Parts {
     Parts {
         threads: 6,
@@ -19,16 +22,22 @@ fn six_threads() -> Parts {
         line: vec![2, 0],
         holds: vec![(1, 2), (3, 0)],
         waits: vec![5, 4],
+        timers: [(0, 0), (300, 258), (0, 0), (0, 0), (0, 0), (0, 0), (8, 0), (0, 0)],
+        arming: (2, 5, 515),
         given: 2,
-        due: Vec::new(),
+        due: vec![(17, 65535), (21, 7), (22, 772)],
         stored: 0,
     }
 }
 
 /// The state lent over and over, filled otherwise each time.
 fn lent() -> impl Iterator<Item = Watch> {
+    lent_as(six_threads())
+}
+
+fn lent_as(parts: Parts) -> impl Iterator<Item = Watch> {
     let mut random = Random::new(1);
-    (0..2000).map(move |_| lend(&six_threads(), &mut random))
+    (0..2000).map(move |_| lend(&parts, &mut random))
 }
 
 #[test]
@@ -41,6 +50,19 @@ fn what_is_in_use_stands_where_the_header_says() {
         assert_eq!((m.waits.items & 0xff, m.waits.count), (0x45, 2));
         assert_eq!((m.holds.sections & 0xff, m.holds.threads & 0xff, m.holds.count), (0x13, 0x20, 2));
         assert_eq!(parts(&watch), six_threads());
+    }
+}
+
+#[test]
+fn timers_and_reports_stand_where_the_header_says() {
+    for watch in lent() {
+        let timers = &watch.state.machine.timers;
+        assert_eq!(timers.expiries, [0, 300, 0, 0, 0, 0, 8, 0]);
+        assert_eq!((timers.periods[1], timers.periods[6]), (258, 0));
+        assert_eq!((timers.arming.stage, timers.arming.timer, timers.arming.start), (2, 5, 515));
+        let due = &watch.state.due.items[watch.state.given..watch.state.due.count];
+        let numbers: Vec<(u8, u16)> = due.iter().map(|report| (report.kind, report.operand)).collect();
+        assert_eq!(numbers, [(17, 65535), (21, 7), (22, 772)]);
     }
 }
 
@@ -71,4 +93,31 @@ fn tick_numbers_of_threads_not_asleep_are_due_or_out_of_range() {
             assert!(lent().any(|watch| watch.state.machine.wakes[thread] == tick), "{thread} {tick}");
         }
     }
+}
+
+#[test]
+fn periods_of_timers_not_armed_are_any() {
+    for timer in [0, 2, 3, 4, 5, 7] {
+        let periods: BTreeSet<u16> = lent().map(|watch| watch.state.machine.timers.periods[timer]).collect();
+        assert!(periods.len() > 1000, "{timer}");
+    }
+}
+
+#[test]
+fn what_an_arming_has_not_come_to_is_any() {
+    let at = |arming| lent_as(Parts { arming, ..six_threads() });
+    let timers: BTreeSet<u8> = at((0, 0, 0)).map(|watch| watch.state.machine.timers.arming.timer).collect();
+    assert!(timers.len() > 200 && timers.contains(&0) && timers.contains(&8));
+    for arming in [(0, 0, 0), (1, 5, 0)] {
+        let starts: BTreeSet<u16> = at(arming).map(|watch| watch.state.machine.timers.arming.start).collect();
+        assert!(starts.len() > 1000, "{arming:?}");
+        assert!(at(arming).all(|watch| parts(&watch).arming == arming));
+    }
+}
+
+#[test]
+fn reports_already_given_are_any() {
+    let places: BTreeSet<usize> = lent().map(|watch| watch.state.given).collect();
+    assert_eq!(places, (0..=REPORTS - 3).collect());
+    assert!(lent().any(|watch| watch.state.given > 0 && watch.state.due.items[0].kind > 22));
 }

@@ -1,9 +1,10 @@
 //! The owner's tie: "the thread holding the section of greatest ceiling, on a tie the one taken later". No run from the start leads to
 //! two holders of equal greatest ceilings, so these are lent states, with answers worked out by hand from document 01.
 
+mod pairs;
+
 use compare::bytes::Numbers;
-use compare::random::Random;
-use compare::sides::Pair;
+use pairs::step;
 use second::{Fault, Parts, Reply, NOBODY};
 
 /// Threads 0 and 1 of base 1 are ready and hold sections 0 and 1. Thread 2 of base 2 needs both, so both ceilings are 2; it waits.
@@ -18,21 +19,16 @@ fn tie() -> Parts {
         line: vec![0, 1],
         holds: vec![(0, 0), (1, 1)],
         waits: vec![2],
+        timers: [(0, 0); 8],
+        arming: (0, 0, 0),
         given: NOBODY,
         due: Vec::new(),
         stored: 0,
     }
 }
 
-/// One step of both sides, which agree; the answer and the state after it.
-fn step(parts: &Parts, record: Numbers) -> (Reply, Parts) {
-    let mut pair = Pair::lent(Fault::None, parts, &mut Random::new(1));
-    let reply = pair.step(record).unwrap_or_else(|difference| panic!("{difference}"));
-    (reply, pair.parts().clone())
-}
-
 fn told_apart(parts: &Parts, record: Numbers) -> bool {
-    Pair::lent(Fault::OwnerTie, parts, &mut Random::new(1)).step(record).is_err()
+    pairs::told_apart(Fault::OwnerTie, parts, record)
 }
 
 const GIVE: u8 = 6;

@@ -5,6 +5,7 @@ use crate::machine::Machine;
 use crate::plan::Plan;
 use crate::records::{read_list, write, Call, Record, MOST_RECORDS};
 use crate::rules::broken_rule;
+use crate::timers::Arming;
 
 /// Writes the dump at the front of `out` and answers the number of its records, or the
 /// number of the question answered No, with `out` untouched.
@@ -26,7 +27,7 @@ pub fn bench_with(fault: Fault, plan: &[u8], list: &[u8], out: &mut [u8]) -> Res
     Ok(records.len())
 }
 
-/// Every call with its reports behind it; 9 where a call is not admitted.
+/// Every call with its reports behind it; 9 where a call is not admitted, or the calls end inside an arming.
 fn run(mut machine: Machine, calls: &[Call]) -> Result<Vec<Record>, u8> {
     let mut records = Vec::new();
     for call in calls {
@@ -40,6 +41,9 @@ fn run(mut machine: Machine, calls: &[Call]) -> Result<Vec<Record>, u8> {
             machine.advance(Record::Report(report));
             records.push(Record::Report(report));
         }
+    }
+    if machine.timers.arming != Arming::Idle && machine.fault != Fault::BenchEndsInsideArming {
+        return Err(9);
     }
     Ok(records)
 }

@@ -5,7 +5,7 @@
 
 #[derive(Clone, Copy, Debug, Default, PartialEq, Eq)]
 pub enum Fault {
-    /// No mistake: document 01 as written.
+    /// No mistake: the documents as written.
     #[default]
     None,
     /// The plan's needs are read high byte first.
@@ -54,11 +54,47 @@ pub enum Fault {
     LongestWaiter,
     /// A relinquisher yields even where it is alone.
     LoneRelinquisherMoves,
+    /// A start in time is one tick before the first expiry.
+    ExpiryAtStartPlusOne,
+    /// A start is in time at or above the tick number.
+    StartAtTickInTime,
+    /// An alarm that is too late is armed for a tick that never comes.
+    LateAlarmArmed,
+    /// An alarm that is too late leaves the timer as it was armed before.
+    LateAlarmKeepsOld,
+    /// A periodic timer armed too late expires a period after the tick number.
+    LatePeriodicFromTick,
+    /// A periodic timer loses the least j for which start + j × period is at or above the tick number.
+    LostAtOrAbove,
+    /// With nothing lost no Late is due.
+    LateZeroLeftOut,
+    /// Of a count above 65535 the lowest two bytes are written.
+    CountNotCapped,
+    /// An alarm stays armed at its expiry.
+    AlarmStaysArmed,
+    /// The Readys of a Tick are due before its Expires.
+    ReadyBeforeExpire,
+    /// Of the timers of one tick the higher number expires first.
+    HigherTimerFirst,
+    /// Question 31 is asked of a call after question 21.
+    Rule31After21,
+    /// Question 31 is asked of calls only.
+    Rule31OfCallsOnly,
+    /// A Tick is admitted inside an arming.
+    TickInsideArming,
+    /// A call list may end inside an arming.
+    BenchEndsInsideArming,
+    /// Question 22 is asked of kinds 2 to 6 only.
+    Rule22NotOfTimers,
+    /// Question 30 compares the low bytes of the operands.
+    Rule30LowByte,
+    /// Question 32 is not asked.
+    Rule32Dropped,
 }
 
 impl Fault {
     /// Every mistake, without `None`.
-    pub const ALL: [Fault; 23] = [
+    pub const ALL: [Fault; 41] = [
         Fault::NeedsByteOrder,
         Fault::CountByteOrder,
         Fault::OperandByteOrder,
@@ -82,6 +118,24 @@ impl Fault {
         Fault::BarsHeldOnly,
         Fault::LongestWaiter,
         Fault::LoneRelinquisherMoves,
+        Fault::ExpiryAtStartPlusOne,
+        Fault::StartAtTickInTime,
+        Fault::LateAlarmArmed,
+        Fault::LateAlarmKeepsOld,
+        Fault::LatePeriodicFromTick,
+        Fault::LostAtOrAbove,
+        Fault::LateZeroLeftOut,
+        Fault::CountNotCapped,
+        Fault::AlarmStaysArmed,
+        Fault::ReadyBeforeExpire,
+        Fault::HigherTimerFirst,
+        Fault::Rule31After21,
+        Fault::Rule31OfCallsOnly,
+        Fault::TickInsideArming,
+        Fault::BenchEndsInsideArming,
+        Fault::Rule22NotOfTimers,
+        Fault::Rule30LowByte,
+        Fault::Rule32Dropped,
     ];
 
     /// The name as written above.

@@ -4,11 +4,14 @@ use crate::fault::Fault;
 use crate::machine::{Condition, Hold, Machine};
 use crate::plan::Plan;
 use crate::records::{Report, NOBODY};
+use crate::timers::{Arming, Timer, Timers, TIMERS};
 
 /// The greatest tick number of a lent state.
 pub const LAST_TICK: u64 = 4_000_000_000;
 /// The greatest tick number that a sleeper of a lent state may wait for.
 pub const LAST_SLEEPER: u64 = 4_000_065_536;
+/// The greatest tick number at which a timer of a lent state may expire.
+pub const LAST_EXPIRY: u64 = 4_000_065_535;
 
 /// A watch state in numbers. Nothing about them is promised until question 12 is asked.
 #[derive(Clone, Debug, Default, PartialEq, Eq)]
@@ -26,9 +29,15 @@ pub struct Parts {
     /// Section and thread, oldest first.
     pub holds: Vec<(u16, u16)>,
     pub waits: Vec<u16>,
+    /// Per timer the tick number of its next expiry, 0 where it is not armed, and its
+    /// period. The period of a timer that is not armed means nothing.
+    pub timers: [(u64, u16); TIMERS],
+    /// How far an arming is (0 none, 1 after Arm, 2 after Start), its timer and its start.
+    /// The timer means nothing at 0, the start nothing but at 2.
+    pub arming: (u8, u8, u16),
     /// The thread last given by a Switch, or `NOBODY`.
     pub given: u16,
-    /// Kind number and thread, or `NOBODY` for a Switch.
+    /// Kind number and operand, as in a dump.
     pub due: Vec<(u8, u16)>,
     /// The stored rule, 0 for none.
     pub stored: u8,
@@ -50,6 +59,8 @@ impl Parts {
             line: numbers(&line),
             holds: holds.collect(),
             waits: numbers(&machine.waits),
+            timers: std::array::from_fn(|timer| timer_numbers(machine.timers.armed.get(&timer))),
+            arming: arming_numbers(machine.timers.arming),
             given: machine.given.map_or(NOBODY, |thread| thread as u16),
             due: machine.due.iter().map(|report| report.numbers()).collect(),
             stored,
@@ -77,6 +88,7 @@ impl Parts {
             line: all_below(&self.line, threads)?.into(),
             holds: holds?,
             waits: all_below(&self.waits, threads)?,
+            timers: self.timers()?,
             given,
             due: due?,
             plan,
@@ -88,11 +100,23 @@ impl Parts {
         Plan::from_numbers(self.threads, self.sections, self.bases.clone(), self.needs.clone()).ok()
     }
 
-    // Thread and section numbers and report kinds are asked where they are turned into the
-    // machine's own; this is what is left.
+    // Numbers of threads, sections and timers and kinds of reports are asked where they are
+    // turned into the machine's own; this is what is left.
     fn numbers_in_range(&self) -> bool {
-        let rule = self.stored == 0 || (21..=30).contains(&self.stored);
-        rule && self.tick <= LAST_TICK && self.due.len() <= self.threads + 1
+        let rule = self.stored == 0 || (21..=32).contains(&self.stored);
+        rule && self.tick <= LAST_TICK && self.due.len() <= self.threads + 9
+    }
+
+    fn timers(&self) -> Option<Timers> {
+        if self.timers.iter().any(|(expiry, _)| *expiry > LAST_EXPIRY) {
+            return None;
+        }
+        let numbered = self.timers.into_iter().enumerate();
+        let armed = numbered.filter(|(_, (expiry, _))| *expiry != 0);
+        Some(Timers {
+            armed: armed.map(|(timer, (expiry, period))| (timer, Timer { expiry, period })).collect(),
+            arming: arming(self.arming)?,
+        })
     }
 
     /// No section is held twice, no thread is listed twice, and each thread is in exactly
@@ -123,6 +147,28 @@ fn condition_numbers(condition: Condition) -> (u8, u64) {
         Condition::Ready => (1, 0),
         Condition::Asleep(until) => (2, until),
         Condition::Waiting(section) => (3, section as u64),
+    }
+}
+
+fn timer_numbers(timer: Option<&Timer>) -> (u64, u16) {
+    timer.map_or((0, 0), |timer| (timer.expiry, timer.period))
+}
+
+fn arming((stage, timer, start): (u8, u8, u16)) -> Option<Arming> {
+    let timer = below(timer.into(), TIMERS);
+    match stage {
+        0 => Some(Arming::Idle),
+        1 => timer.map(Arming::AfterArm),
+        2 => timer.map(|timer| Arming::AfterStart(timer, start)),
+        _ => None,
+    }
+}
+
+fn arming_numbers(arming: Arming) -> (u8, u8, u16) {
+    match arming {
+        Arming::Idle => (0, 0, 0),
+        Arming::AfterArm(timer) => (1, timer as u8, 0),
+        Arming::AfterStart(timer, start) => (2, timer as u8, start),
     }
 }
 

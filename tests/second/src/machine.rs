@@ -6,7 +6,8 @@ use std::collections::VecDeque;
 
 use crate::fault::Fault;
 use crate::plan::Plan;
-use crate::records::{Call, Record, Report, ReportKind};
+use crate::records::{Call, Record, Report};
+use crate::timers::Timers;
 
 #[derive(Clone, Copy, Debug, PartialEq, Eq)]
 pub enum Condition {
@@ -36,6 +37,7 @@ pub struct Machine {
     pub holds: Vec<Hold>,
     /// In order of their Take.
     pub waits: Vec<usize>,
+    pub timers: Timers,
     /// The thread of the latest Switch that was given; a Switch still due is in `due`.
     pub given: Option<usize>,
     pub due: VecDeque<Report>,
@@ -51,6 +53,7 @@ impl Machine {
             line: VecDeque::new(),
             holds: Vec::new(),
             waits: Vec::new(),
+            timers: Timers::default(),
             given: None,
             due: VecDeque::new(),
             plan,
@@ -108,11 +111,8 @@ impl Machine {
 
     /// The thread last reported as running; a Switch that is due counts as reported.
     pub fn last_reported(&self) -> Option<usize> {
-        let switch = self.due.iter().rev().find(|report| report.kind == ReportKind::Switch);
-        match switch {
-            Some(report) => report.thread,
-            None => self.given,
-        }
+        let switched = self.due.iter().rev().find_map(|report| switched_to(*report));
+        switched.unwrap_or(self.given)
     }
 
     pub fn holds_any(&self, thread: usize) -> bool {
@@ -137,10 +137,9 @@ impl Machine {
     }
 
     fn report_given(&mut self) {
-        if let Some(report) = self.due.pop_front() {
-            if report.kind == ReportKind::Switch {
-                self.given = report.thread;
-            }
+        let given = self.due.pop_front();
+        if let Some(thread) = given.and_then(switched_to) {
+            self.given = thread;
         }
     }
 
@@ -153,26 +152,24 @@ impl Machine {
             (Call::End, Some(caller)) => self.leave_line(caller, Condition::Dormant),
             (Call::Take(section), Some(caller)) => self.take(caller, section),
             (Call::Give(section), Some(caller)) => self.give(caller, section),
+            (Call::Arm(timer), _) => self.timers.arm(timer),
+            (Call::Start(number), _) => self.timers.start(number),
+            (Call::Period(ticks), _) => self.period(ticks),
+            (Call::Cancel(timer), _) => self.timers.cancel(timer),
             // Reached only where rule 22 is left out by mistake.
             (_, None) => {}
         }
         self.owe_switch();
     }
 
-    fn owe(&mut self, kind: ReportKind, thread: usize) {
-        self.due.push_back(Report {
-            kind,
-            thread: Some(thread),
-        });
+    fn owe(&mut self, report: Report) {
+        self.due.push_back(report);
     }
 
     fn owe_switch(&mut self) {
         let chosen = self.chosen();
         if chosen != self.last_reported() {
-            self.due.push_back(Report {
-                kind: ReportKind::Switch,
-                thread: chosen,
-            });
+            self.owe(Report::Switch(chosen));
         }
     }
 
@@ -192,11 +189,27 @@ impl Machine {
 
     fn create(&mut self, thread: usize) {
         self.join_line(thread, false);
-        self.owe(ReportKind::Ready, thread);
+        self.owe(Report::Ready(thread));
     }
 
     fn clock_tick(&mut self) {
         self.tick += 1;
+        if self.fault == Fault::ReadyBeforeExpire {
+            self.wake_sleepers();
+            self.expire_timers();
+        } else {
+            self.expire_timers();
+            self.wake_sleepers();
+        }
+    }
+
+    fn expire_timers(&mut self) {
+        for timer in self.timers.expire(self.tick, self.fault) {
+            self.owe(Report::Expire(timer));
+        }
+    }
+
+    fn wake_sleepers(&mut self) {
         let mut woken: Vec<usize> = (0..self.plan.threads())
             .filter(|thread| self.conditions[*thread] == Condition::Asleep(self.tick))
             .collect();
@@ -205,7 +218,19 @@ impl Machine {
         }
         for thread in woken {
             self.join_line(thread, self.fault == Fault::WokenAtFront);
-            self.owe(ReportKind::Ready, thread);
+            self.owe(Report::Ready(thread));
+        }
+    }
+
+    /// A count above 65535 is written 65535.
+    fn period(&mut self, ticks: u16) {
+        let count = self.timers.period(ticks, self.tick, self.fault);
+        let written = match self.fault {
+            Fault::CountNotCapped => count as u16,
+            _ => u16::try_from(count).unwrap_or(u16::MAX),
+        };
+        if count > 0 || self.fault != Fault::LateZeroLeftOut {
+            self.owe(Report::Late(written));
         }
     }
 
@@ -227,18 +252,18 @@ impl Machine {
         if equal || self.fault == Fault::LoneRelinquisherMoves {
             self.line.retain(|thread| *thread != caller);
             self.line.push_back(caller);
-            self.owe(ReportKind::Yield, caller);
+            self.owe(Report::Yield(caller));
         }
     }
 
     fn take(&mut self, caller: usize, section: usize) {
         if self.wins(caller, section) {
             self.holds.push(Hold { section, thread: caller });
-            self.owe(ReportKind::Won, caller);
+            self.owe(Report::Won(caller));
         } else {
             self.leave_line(caller, Condition::Waiting(section));
             self.begin_to_wait(caller);
-            self.owe(ReportKind::Lost, caller);
+            self.owe(Report::Lost(caller));
         }
     }
 
@@ -275,7 +300,7 @@ impl Machine {
             self.hand_over(heir, section);
         } else {
             let named = if self.fault == Fault::LostNamesGiver { caller } else { heir };
-            self.owe(ReportKind::Lost, named);
+            self.owe(Report::Lost(named));
         }
     }
 
@@ -302,8 +327,16 @@ impl Machine {
         };
         self.waits.retain(|waiter| *waiter != heir);
         self.holds.push(Hold { section, thread: heir });
-        self.owe(ReportKind::Won, heir);
+        self.owe(Report::Won(heir));
         self.join_line(heir, self.fault == Fault::HeirAtFront);
-        self.owe(ReportKind::Ready, heir);
+        self.owe(Report::Ready(heir));
+    }
+}
+
+/// The thread, or nobody, that a Switch names; nothing for another report.
+fn switched_to(report: Report) -> Option<Option<usize>> {
+    match report {
+        Report::Switch(thread) => Some(thread),
+        _ => None,
     }
 }

@@ -6,7 +6,7 @@
 use crate::fault::Fault;
 use crate::machine::Machine;
 use crate::plan::Plan;
-use crate::records::{Call, Record, ReportKind};
+use crate::records::{Call, Record, Report};
 use crate::rules::broken_rule;
 
 /// How often a list of records gave the parts something to say.
@@ -20,6 +20,8 @@ pub struct Seen {
     pub calls_while_active: usize,
     /// Part 4: Gives of that lower thread between the beginning and its call.
     pub gives_between: usize,
+    /// Parts 2 and 3: those calls of a lower thread that are timer calls.
+    pub timer_calls: usize,
 }
 
 /// Checks the four parts for a clean list of records, given as kind and operand numbers.
@@ -110,6 +112,10 @@ impl<'a> Story<'a> {
         }
     }
 
+    fn is_timer_call(&self, i: usize) -> bool {
+        self.call(i).is_some_and(Call::is_of_timers)
+    }
+
     /// The thread whose call record i is; a Tick is no thread's.
     fn caller(&self, i: usize) -> Option<usize> {
         match self.call(i)? {
@@ -118,11 +124,10 @@ impl<'a> Story<'a> {
         }
     }
 
-    /// The thread named by record j, if that is a report of the kind.
-    fn report_thread(&self, j: usize, kind: ReportKind) -> Option<usize> {
+    fn report(&self, j: usize) -> Option<Report> {
         match self.records[j] {
-            Record::Report(report) if report.kind == kind => report.thread,
-            _ => None,
+            Record::Report(report) => Some(report),
+            Record::Call(_) => None,
         }
     }
 
@@ -131,8 +136,9 @@ impl<'a> Story<'a> {
         (0..j).rev().find(|i| matches!(self.call(*i), Some(Call::Take(_) | Call::Give(_))))
     }
 
-    fn has_report(&self, i: usize, kind: ReportKind) -> bool {
-        (i + 1..self.records.len()).any(|j| self.report_thread(j, kind).is_some() && self.belongs(j) == Some(i))
+    /// Whether a report of that sort belongs to record i.
+    fn has_report(&self, i: usize, sort: fn(Report) -> bool) -> bool {
+        (i + 1..self.records.len()).any(|j| self.report(j).is_some_and(sort) && self.belongs(j) == Some(i))
     }
 
     fn taking(&self, at: usize) -> Option<Taking> {
@@ -140,9 +146,9 @@ impl<'a> Story<'a> {
             return None;
         };
         let by = self.caller(at)?;
-        let lost = self.has_report(at, ReportKind::Lost);
+        let lost = self.has_report(at, |report| matches!(report, Report::Lost(_)));
         let relieved = if lost { self.relief(at, by) } else { None };
-        let won = self.has_report(at, ReportKind::Won);
+        let won = self.has_report(at, |report| matches!(report, Report::Won(_)));
         let held_from = if won { Some(at) } else { relieved };
         let given_at = held_from.and_then(|from| self.own_give(from, by, section));
         Some(Taking {
@@ -158,7 +164,7 @@ impl<'a> Story<'a> {
 
     /// The Give to which the first Won naming the thread after the Take belongs.
     fn relief(&self, at: usize, by: usize) -> Option<usize> {
-        let won = (at + 1..self.records.len()).find(|j| self.report_thread(*j, ReportKind::Won) == Some(by))?;
+        let won = (at + 1..self.records.len()).find(|j| self.report(*j) == Some(Report::Won(by)))?;
         self.belongs(won).filter(|i| matches!(self.call(*i), Some(Call::Give(_))))
     }
 
@@ -211,6 +217,7 @@ impl<'a> Story<'a> {
                     continue;
                 };
                 seen.calls_in_waits += 1;
+                seen.timer_calls += usize::from(self.is_timer_call(c));
                 if only.is_some_and(|other| other != low) {
                     return Err(format!("part 2: a second lower caller at {c}, wait {}", wait.at));
                 }
@@ -238,6 +245,7 @@ impl<'a> Story<'a> {
         for c in start + 1..self.records.len() {
             if let Some(low) = self.caller(c).filter(|l| self.below(*l, high)) {
                 seen.calls_while_active += 1;
+                seen.timer_calls += usize::from(self.is_timer_call(c));
                 if !self.waits(low, start) && !self.blocks(low, high, start) {
                     return Err(format!("part 3: {low} calls at {c}, {high} active from {start}"));
                 }
@@ -289,7 +297,7 @@ fn runners(records: &[Record]) -> Vec<Option<usize>> {
     let mut runners = vec![None];
     for (k, record) in records.iter().enumerate() {
         let runner = match record {
-            Record::Report(report) if report.kind == ReportKind::Switch => report.thread,
+            Record::Report(Report::Switch(thread)) => *thread,
             _ => runners[k],
         };
         runners.push(runner);

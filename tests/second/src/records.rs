@@ -2,6 +2,7 @@
 
 use crate::fault::Fault;
 use crate::plan::{two_bytes, Plan};
+use crate::timers::TIMERS;
 
 /// The operand of a Switch to nobody.
 pub const NOBODY: u16 = 65535;
@@ -17,22 +18,26 @@ pub enum Call {
     Take(usize),
     Give(usize),
     Tick,
+    /// A timer.
+    Arm(usize),
+    /// A tick number.
+    Start(u16),
+    /// 0 for an alarm.
+    Period(u16),
+    /// A timer.
+    Cancel(usize),
 }
 
+/// A report and what it names: a thread, or nobody, or a timer, or the count lost.
 #[derive(Clone, Copy, Debug, PartialEq, Eq)]
-pub enum ReportKind {
-    Ready,
-    Switch,
-    Won,
-    Lost,
-    Yield,
-}
-
-/// A report and the thread that it names; nobody only for a Switch.
-#[derive(Clone, Copy, Debug, PartialEq, Eq)]
-pub struct Report {
-    pub kind: ReportKind,
-    pub thread: Option<usize>,
+pub enum Report {
+    Ready(usize),
+    Switch(Option<usize>),
+    Won(usize),
+    Lost(usize),
+    Yield(usize),
+    Expire(usize),
+    Late(u16),
 }
 
 #[derive(Clone, Copy, Debug, PartialEq, Eq)]
@@ -41,43 +46,33 @@ pub enum Record {
     Report(Report),
 }
 
-impl ReportKind {
-    pub fn from_number(kind: u8) -> Option<ReportKind> {
+impl Report {
+    /// A report from its numbers, if the kind is a report's and the operand allowed for it.
+    pub fn from_numbers(kind: u8, operand: u16, plan: &Plan) -> Option<Report> {
+        let thread = below(operand, plan.threads());
         match kind {
-            16 => Some(ReportKind::Ready),
-            17 => Some(ReportKind::Switch),
-            18 => Some(ReportKind::Won),
-            19 => Some(ReportKind::Lost),
-            20 => Some(ReportKind::Yield),
+            16 => thread.map(Report::Ready),
+            17 if operand == NOBODY => Some(Report::Switch(None)),
+            17 => thread.map(|thread| Report::Switch(Some(thread))),
+            18 => thread.map(Report::Won),
+            19 => thread.map(Report::Lost),
+            20 => thread.map(Report::Yield),
+            21 => below(operand, TIMERS).map(Report::Expire),
+            22 => Some(Report::Late(operand)),
             _ => None,
         }
     }
 
-    pub fn number(self) -> u8 {
-        match self {
-            ReportKind::Ready => 16,
-            ReportKind::Switch => 17,
-            ReportKind::Won => 18,
-            ReportKind::Lost => 19,
-            ReportKind::Yield => 20,
-        }
-    }
-}
-
-impl Report {
-    /// A report from its numbers, if the kind is a report's and the thread allowed for it.
-    pub fn from_numbers(kind: u8, thread: u16, plan: &Plan) -> Option<Report> {
-        let kind = ReportKind::from_number(kind)?;
-        if kind == ReportKind::Switch && thread == NOBODY {
-            return Some(Report { kind, thread: None });
-        }
-        let thread = Some(below(thread, plan.threads())?);
-        Some(Report { kind, thread })
-    }
-
     pub fn numbers(self) -> (u8, u16) {
-        let thread = self.thread.map_or(NOBODY, |thread| thread as u16);
-        (self.kind.number(), thread)
+        match self {
+            Report::Ready(thread) => (16, thread as u16),
+            Report::Switch(thread) => (17, thread.map_or(NOBODY, |thread| thread as u16)),
+            Report::Won(thread) => (18, thread as u16),
+            Report::Lost(thread) => (19, thread as u16),
+            Report::Yield(thread) => (20, thread as u16),
+            Report::Expire(timer) => (21, timer as u16),
+            Report::Late(count) => (22, count),
+        }
     }
 }
 
@@ -86,6 +81,7 @@ impl Call {
     fn from_numbers(kind: u8, operand: u16, plan: &Plan) -> Option<Call> {
         let thread = below(operand, plan.threads());
         let section = below(operand, plan.sections());
+        let timer = below(operand, TIMERS);
         let plain = |call| (operand == 0).then_some(call);
         match kind {
             1 => thread.map(Call::Create),
@@ -95,8 +91,16 @@ impl Call {
             5 => section.map(Call::Take),
             6 => section.map(Call::Give),
             7 => plain(Call::Tick),
+            8 => timer.map(Call::Arm),
+            9 => (operand >= 1).then_some(Call::Start(operand)),
+            10 => Some(Call::Period(operand)),
+            11 => timer.map(Call::Cancel),
             _ => None,
         }
+    }
+
+    pub fn is_of_timers(self) -> bool {
+        matches!(self, Call::Arm(_) | Call::Start(_) | Call::Period(_) | Call::Cancel(_))
     }
 
     pub fn numbers(self) -> (u8, u16) {
@@ -108,6 +112,10 @@ impl Call {
             Call::Take(section) => (5, section as u16),
             Call::Give(section) => (6, section as u16),
             Call::Tick => (7, 0),
+            Call::Arm(timer) => (8, timer as u16),
+            Call::Start(number) => (9, number),
+            Call::Period(ticks) => (10, ticks),
+            Call::Cancel(timer) => (11, timer as u16),
         }
     }
 }
@@ -142,7 +150,7 @@ pub fn read_list(bytes: &[u8], plan: &Plan, fault: Fault) -> Result<Vec<Call>, u
     let records = read(bytes, plan, is_call, fault)?;
     let calls = records.into_iter().map(|record| match record {
         Record::Call(call) => call,
-        Record::Report(_) => unreachable!("kinds 1 to 7 are calls"),
+        Record::Report(_) => unreachable!("kinds 1 to 11 are calls"),
     });
     Ok(calls.collect())
 }
@@ -185,11 +193,11 @@ fn read(bytes: &[u8], plan: &Plan, kind_allowed: fn(u8) -> bool, fault: Fault) -
 }
 
 fn is_call(kind: u8) -> bool {
-    (1..=7).contains(&kind)
+    (1..=11).contains(&kind)
 }
 
 fn is_call_or_report(kind: u8) -> bool {
-    is_call(kind) || (16..=20).contains(&kind)
+    is_call(kind) || (16..=22).contains(&kind)
 }
 
 fn below(number: u16, bound: usize) -> Option<usize> {

@@ -1,8 +1,9 @@
 //! The live step: questions 12, 7, 8 and 13, the stored breach, and lent states.
 
-use second::{Fault, Parts, Reply, Watch, LAST_SLEEPER, LAST_TICK, NOBODY};
+use second::{Fault, Parts, Reply, Watch, LAST_EXPIRY, LAST_SLEEPER, LAST_TICK, NOBODY};
 
-/// Threads 0 (ready, holds section 0), 1 (waits for 0), 2 (asleep) and 3 (dormant).
+/// Threads 0 (ready, holds section 0), 1 (waits for 0), 2 (asleep) and 3 (dormant). Timer 2 is an alarm at 9, and 5 expires every third tick
+/// from 8 on.
 fn good() -> Parts {
     Parts {
         threads: 4,
@@ -14,6 +15,8 @@ fn good() -> Parts {
         line: vec![0],
         holds: vec![(0, 0)],
         waits: vec![1],
+        timers: [(0, 0), (0, 0), (9, 0), (0, 0), (0, 0), (8, 3), (0, 0), (0, 0)],
+        arming: (0, 0, 0),
         given: 0,
         due: Vec::new(),
         stored: 0,
@@ -63,9 +66,9 @@ fn numbers_out_of_range() {
     is_12(|p| p.given = 4);
     passes(|p| p.given = NOBODY);
     is_12(|p| p.stored = 20);
-    is_12(|p| p.stored = 31);
+    is_12(|p| p.stored = 33);
     passes(|p| p.stored = 21);
-    passes(|p| p.stored = 30);
+    passes(|p| p.stored = 32);
     passes(|p| p.tick = LAST_TICK);
     is_12(|p| p.tick = LAST_TICK + 1);
     passes(|p| p.conditions[2].1 = LAST_SLEEPER);
@@ -75,14 +78,32 @@ fn numbers_out_of_range() {
 
 #[test]
 fn reports_out_of_range() {
-    passes(|p| p.due = vec![(16, 3), (17, NOBODY), (18, 0), (19, 1), (20, 2)]);
-    is_12(|p| p.due = vec![(16, 0); 6]);
+    passes(|p| p.due = vec![(16, 3), (17, NOBODY), (18, 0), (19, 1), (20, 2), (21, 7), (22, NOBODY)]);
+    passes(|p| p.due = vec![(16, 0); 13]);
+    is_12(|p| p.due = vec![(16, 0); 14]);
     is_12(|p| p.due = vec![(15, 0)]);
-    is_12(|p| p.due = vec![(21, 0)]);
+    is_12(|p| p.due = vec![(23, 0)]);
     is_12(|p| p.due = vec![(17, 4)]);
+    is_12(|p| p.due = vec![(21, 8)]);
+    is_12(|p| p.due = vec![(21, 256)]);
     for kind in [16, 18, 19, 20] {
         is_12(|p| p.due = vec![(kind, NOBODY)]);
     }
+}
+
+#[test]
+fn timers_out_of_range() {
+    passes(|p| p.timers[0] = (LAST_EXPIRY, 65535));
+    is_12(|p| p.timers[0] = (LAST_EXPIRY + 1, 1));
+    passes(|p| p.timers[0] = (0, 65535));
+    passes(|p| p.timers[0] = (1, 0));
+    passes(|p| p.arming = (0, 8, 65535));
+    passes(|p| p.arming = (1, 7, 0));
+    is_12(|p| p.arming = (1, 8, 0));
+    passes(|p| p.arming = (2, 7, 0));
+    is_12(|p| p.arming = (2, 8, 1));
+    is_12(|p| p.arming = (3, 0, 1));
+    passes(|p| (p.arming, p.due) = ((2, 0, 1), vec![(22, 0)]));
 }
 
 #[test]
@@ -105,7 +126,7 @@ fn lists_and_conditions() {
 
 #[test]
 fn seven_eight_and_thirteen_in_order() {
-    assert_eq!(reply(|_| {}, 8, 0), Reply::Refused(7));
+    assert_eq!(reply(|_| {}, 12, 0), Reply::Refused(7));
     assert_eq!(reply(|_| {}, 1, 4), Reply::Refused(8));
     assert_eq!(reply(|p| p.tick = LAST_TICK, 7, 1), Reply::Refused(8));
     assert_eq!(reply(|p| p.tick = LAST_TICK, 7, 0), Reply::Refused(13));
@@ -170,6 +191,8 @@ fn tie() -> Parts {
         line: vec![0, 1],
         holds: vec![(0, 0), (1, 1)],
         waits: vec![2],
+        timers: [(0, 0); 8],
+        arming: (0, 0, 0),
         given: NOBODY,
         due: Vec::new(),
         stored: 0,
@@ -199,7 +222,7 @@ fn the_caller_is_the_chosen_thread() {
 
 #[test]
 fn a_past_sleeper_sleeps_on() {
-    // "Sleepers whose tick number this is": 3 has passed at 7, so nobody wakes at 8.
+    // "Sleepers whose tick number this is": 3 has passed at 7, so nobody wakes at 8. Timer 5 expires.
     let change = |p: &mut Parts| p.conditions[2].1 = 3;
-    assert_eq!(reply(change, 7, 0), Reply::Clean { due: 0 });
+    assert_eq!(reply(change, 7, 0), Reply::Clean { due: 1 });
 }

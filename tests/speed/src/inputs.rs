@@ -46,6 +46,7 @@ pub fn all() -> Vec<Input> {
         input("contention", 1.5, regular::contention(LONG)),
         input("nested", 1.5, regular::nested(LONG)),
         input("relinquish", 1.5, regular::relinquish(LONG)),
+        timers(1, LONG),
     ]
 }
 
@@ -59,6 +60,10 @@ pub fn ticks_many(seed: u64, records: usize) -> Input {
 
 pub fn mixed(name: &'static str, seed: u64, threads: usize, sections: usize, records: usize) -> Input {
     input(name, 1.0, random::mixed(seed, threads, sections, records))
+}
+
+pub fn timers(seed: u64, records: usize) -> Input {
+    input("timers", 1.5, random::timers(seed, records))
 }
 
 /// Ticks that wake nobody, behind a few calls. No aim is set for it.
@@ -81,7 +86,7 @@ mod tests {
     }
 
     #[test]
-    fn mixed_inputs_have_every_kind_and_a_tenth_of_ticks() {
+    fn mixed_inputs_have_every_kind_but_the_timers_and_a_tenth_of_ticks() {
         for input in all().iter().filter(|input| input.name.starts_with("mixed")) {
             assert!(
                 (CREATE..=TICK).chain(READY..=YIELD).all(|kind| share(input, kind) > 0.01),
@@ -90,6 +95,24 @@ mod tests {
             );
             assert!((0.08..0.12).contains(&share(input, TICK)), "{}: {}", input.name, share(input, TICK));
         }
+    }
+
+    #[test]
+    fn eight_timers_expire_among_calls() {
+        let input = timers(1, LONG);
+        let records = input.decoded();
+        let expires = |timer| records.iter().filter(|record| **record == (EXPIRE, timer)).count();
+        assert!(
+            (0..8).all(|timer| expires(timer) > 100),
+            "{:?}",
+            (0..8).map(expires).collect::<Vec<usize>>()
+        );
+        let others = [
+            DELAY, RELINQUISH, TAKE, GIVE, ARM, START, PERIOD, READY, SWITCH, WON, LOST, YIELD, LATE,
+        ];
+        assert!(others.iter().all(|kind| share(&input, *kind) > 0.01));
+        assert!(share(&input, TICK) > 0.2 && share(&input, EXPIRE) > 0.2 && share(&input, CANCEL) > 0.002);
+        assert!(records.iter().any(|record| record.0 == LATE && record.1 > 5));
     }
 
     #[test]

@@ -14,7 +14,7 @@ const USAGE: &str = "usage: speed [--aims] [--rounds N] [INPUT ...]
        speed --dump INPUT > FILE
        speed --list";
 
-const KINDS: [(u8, &str); 12] = [
+const KINDS: [(u8, &str); 18] = [
     (peer::CREATE, "Create"),
     (peer::DELAY, "Delay"),
     (peer::RELINQUISH, "Relinquish"),
@@ -22,11 +22,17 @@ const KINDS: [(u8, &str); 12] = [
     (peer::TAKE, "Take"),
     (peer::GIVE, "Give"),
     (peer::TICK, "Tick"),
+    (peer::ARM, "Arm"),
+    (peer::START, "Start"),
+    (peer::PERIOD, "Period"),
+    (peer::CANCEL, "Cancel"),
     (peer::READY, "Ready"),
     (peer::SWITCH, "Switch"),
     (peer::WON, "Won"),
     (peer::LOST, "Lost"),
     (peer::YIELD, "Yield"),
+    (peer::EXPIRE, "Expire"),
+    (peer::LATE, "Late"),
 ];
 
 struct Wishes {

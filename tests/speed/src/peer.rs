@@ -1,7 +1,7 @@
-//! The yardstick: the whole check of document 01 as plain, fast Rust. Fixed arrays, ceilings computed once, no allocation.
+//! The yardstick: the whole check of documents 01 and 02 as plain, fast Rust. Fixed arrays, ceilings computed once, no allocation.
 //!
-//! There are two of them. The plain one decides over the kind wherever a kind is asked for, and looks through all threads at each Tick.
-//! TUNED reads the bounds of an operand from a table and keeps the soonest tick number at which a sleeper wakes.
+//! There are two of them. The plain one decides over the kind wherever a kind is asked for, and looks through all threads and timers at
+//! each Tick. TUNED reads the bounds of an operand from a table and keeps the soonest tick number at which a sleeper wakes or a timer expires.
 
 mod calls;
 #[cfg(test)]
@@ -10,6 +10,7 @@ mod damaged;
 mod known;
 mod machine;
 mod questions;
+mod timers;
 
 pub use beltcairn::Verdict;
 pub use machine::Machine;
@@ -22,14 +23,22 @@ pub const END: u8 = 4;
 pub const TAKE: u8 = 5;
 pub const GIVE: u8 = 6;
 pub const TICK: u8 = 7;
+pub const ARM: u8 = 8;
+pub const START: u8 = 9;
+pub const PERIOD: u8 = 10;
+pub const CANCEL: u8 = 11;
 pub const READY: u8 = 16;
 pub const SWITCH: u8 = 17;
 pub const WON: u8 = 18;
 pub const LOST: u8 = 19;
 pub const YIELD: u8 = 20;
+pub const EXPIRE: u8 = 21;
+pub const LATE: u8 = 22;
 
 /// A Switch to nobody names this.
 pub const NOBODY: u16 = 65535;
+
+pub const TIMERS: usize = 8;
 
 /// The whole check.
 pub fn check<const TUNED: bool>(plan: &[u8], dump: &[u8]) -> Verdict {

@@ -1,6 +1,8 @@
 //! The known runs of document 01, typed from its text: plan, records, and the verdict that it states.
 #![allow(dead_code)] // each test file uses a part
 
+pub mod timers;
+
 use beltcairn::kind::{CREATE, DELAY, GIVE, LOST, READY, RELINQUISH, SWITCH, TAKE, TICK, WON, YIELD};
 use beltcairn::{Verdict, NOBODY};
 

@@ -1,6 +1,6 @@
 //! Random plans and runs for the tests.
 
-use second::{broken_rule, Call, Fault, Machine, Plan, Record};
+use second::{broken_rule, Arming, Call, Fault, Machine, Plan, Record};
 
 /// A small generator of repeatable numbers (xorshift).
 pub struct Random(u64);
@@ -41,15 +41,21 @@ fn admitted(machine: &Machine) -> Vec<Call> {
     for section in 0..machine.plan.sections() {
         calls.extend([(6, Call::Take(section)), (2, Call::Give(section))]);
     }
+    calls.extend([0, 1, 7].map(|timer| (1, Call::Arm(timer))));
+    calls.extend((1..12).map(|number| (1, Call::Start(number))));
+    calls.extend((0..4).map(|ticks| (1, Call::Period(ticks))));
+    calls.extend([0, 1, 7].map(|timer| (1, Call::Cancel(timer))));
     calls.retain(|(_, call)| broken_rule(machine, Record::Call(*call)).is_none());
     calls.into_iter().flat_map(|(weight, call)| vec![call; weight]).collect()
 }
 
-/// That many calls with their reports, as a machine with that fault makes them.
+/// That many calls with their reports, as a machine with that fault makes them, and the rest of an arming.
 pub fn random_run(random: &mut Random, plan: &[u8], fault: Fault, calls: usize) -> Vec<Record> {
     let mut machine = Machine::new(Plan::read(plan, Fault::None).unwrap(), fault);
     let mut records = Vec::new();
-    for _ in 0..calls {
+    let mut made = 0;
+    while made < calls || machine.timers.arming != Arming::Idle {
+        made += 1;
         let choice = admitted(&machine);
         let record = Record::Call(choice[random.below(choice.len())]);
         machine.advance(record);
@@ -75,5 +81,5 @@ pub fn bytes(records: &[(u8, u16)]) -> Vec<u8> {
 }
 
 pub fn calls_only(records: &[(u8, u16)]) -> Vec<(u8, u16)> {
-    records.iter().copied().filter(|(kind, _)| *kind <= 7).collect()
+    records.iter().copied().filter(|(kind, _)| *kind < 16).collect()
 }

@@ -1,4 +1,4 @@
-//! Inputs drawn by a small generator of numbers: long runs of Ticks, and calls of every kind.
+//! Inputs drawn by a small generator of numbers: long runs of Ticks, calls of kinds 1 to 7, and timers among such calls.
 
 use super::Recorder;
 use crate::peer::*;
@@ -65,7 +65,7 @@ pub fn ticks_many(seed: u64, records: usize) -> (Vec<u8>, Vec<u8>) {
     run.finish()
 }
 
-/// Calls of every kind as they are drawn; those that the machine does not admit are left out.
+/// Calls of kinds 1 to 7 as they are drawn; those that the machine does not admit are left out.
 pub fn mixed(seed: u64, threads: usize, sections: usize, records: usize) -> (Vec<u8>, Vec<u8>) {
     let mut draw = Draw(seed);
     let plan: Vec<(u8, u16)> = (0..threads)
@@ -90,4 +90,54 @@ pub fn mixed(seed: u64, threads: usize, sections: usize, records: usize) -> (Vec
         };
     }
     run.finish()
+}
+
+/// The period of each timer: about one expiry for each Tick.
+const PERIODS: [u16; TIMERS] = [3, 5, 7, 11, 13, 17, 23, 31];
+
+/// Arms a timer with its period; the start is up to forty ticks past or up to twenty ahead.
+fn arm(run: &mut Recorder, draw: &mut Draw, timer: usize) {
+    let start = (run.tick() + 20).saturating_sub(draw.below(60)).max(1);
+    run.must(ARM, timer as u16);
+    run.must(START, start as u16);
+    run.must(PERIOD, PERIODS[timer]);
+}
+
+/// Two equal threads that run by turns and take sections, and two above them that sleep and take one each. Eight periodic timers run beside
+/// them, and now and then one is armed again, half of the times after a Cancel.
+pub fn timers(seed: u64, records: usize) -> (Vec<u8>, Vec<u8>) {
+    let mut draw = Draw(seed);
+    let mut run = Recorder::new(2, &[(1, 0b11), (1, 0b11), (2, 0b01), (3, 0b10)], records);
+    for thread in 0..4 {
+        run.must(CREATE, thread);
+    }
+    for timer in 0..TIMERS {
+        arm(&mut run, &mut draw, timer);
+    }
+    while !run.full() {
+        match (run.running(), run.last_taken()) {
+            (Some(thread @ 2..), None) if draw.below(2) == 0 => run.must(TAKE, thread - 2),
+            (Some(2..), None) => run.must(DELAY, draw.between(2, 20)),
+            (Some(2..), Some(section)) => run.must(GIVE, section),
+            (_, taken) => below(&mut run, &mut draw, taken),
+        }
+    }
+    run.finish()
+}
+
+/// A Tick, or a call of one of the two lower threads.
+fn below(run: &mut Recorder, draw: &mut Draw, taken: Option<u16>) {
+    match (draw.below(24), taken) {
+        (0..=15, _) => run.must(TICK, 0),
+        (16..=18, _) => run.must(RELINQUISH, 0),
+        (19..=22, Some(section)) => run.must(GIVE, section),
+        (19..=22, None) => run.must(TAKE, draw.between(0, 1)),
+        _ => {
+            let timer = draw.below(TIMERS);
+            if draw.below(2) == 0 {
+                run.must(CANCEL, timer as u16);
+            }
+            arm(run, draw, timer);
+        }
+    }
 }

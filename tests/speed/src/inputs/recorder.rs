@@ -31,9 +31,9 @@ impl Recorder {
         }
         self.records.push((kind, operand));
         while let Some(report) = self.machine.first_due() {
-            self.records.push((report.kind, report.thread));
+            self.records.push((report.kind, report.operand));
             self.machine
-                .judge(report.kind, report.thread)
+                .judge(report.kind, report.operand)
                 .expect("the report due is the one that is given");
         }
         true
@@ -50,6 +50,10 @@ impl Recorder {
 
     pub fn full(&self) -> bool {
         self.records.len() >= self.wanted
+    }
+
+    pub fn tick(&self) -> usize {
+        self.machine.tick as usize
     }
 
     pub fn running(&self) -> Option<u16> {

@@ -12,27 +12,32 @@ impl<const TUNED: bool> Machine<TUNED> {
         Ok(())
     }
 
-    /// A Tick that wakes nobody leaves the line as it is, and so the chosen thread.
     pub fn tick(&mut self) {
         self.tick += 1;
-        let wakes = if TUNED {
-            self.tick == self.soonest
-        } else {
-            self.wakes[..self.plan.threads].contains(&self.tick)
-        };
-        if !wakes {
+        if TUNED && self.tick != self.soonest {
             return;
         }
+        if self.timers.expiries.contains(&self.tick) {
+            self.expire();
+        }
+        if self.wakes[..self.plan.threads].contains(&self.tick) {
+            self.wake();
+            self.settle();
+        }
+        if TUNED {
+            let sooner = |numbers: &[u32]| numbers.iter().copied().fold(u32::MAX, u32::min);
+            self.soonest = sooner(&self.wakes).min(sooner(&self.timers.expiries));
+        }
+    }
+
+    /// The sleepers whose tick has come. Where there is none the line stays, and so does the chosen thread.
+    fn wake(&mut self) {
         for thread in 0..self.plan.threads {
             if self.wakes[thread] == self.tick {
                 self.wakes[thread] = u32::MAX;
                 self.arrive(thread as u16);
             }
         }
-        if TUNED {
-            self.soonest = self.wakes.iter().copied().fold(u32::MAX, u32::min);
-        }
-        self.settle();
     }
 
     pub fn delay(&mut self, caller: u16, wait: u16) -> Result<(), u8> {

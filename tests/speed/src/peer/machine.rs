@@ -1,5 +1,6 @@
-//! What the machine remembers, and rules 21 to 30.
+//! What the machine remembers, and the order in which the rules are asked.
 
+use super::timers::Timers;
 use super::*;
 
 /// Threads in order: the line, or the waits.
@@ -83,13 +84,16 @@ pub enum Condition {
 #[derive(Clone, Copy)]
 pub struct Report {
     pub kind: u8,
-    pub thread: u16,
+    pub operand: u16,
 }
+
+/// The most reports of a call: every timer expires, every thread wakes, and one is switched to.
+const ROOM: usize = TIMERS + 17;
 
 pub struct Machine<const TUNED: bool> {
     pub plan: Plan,
     pub tick: u32,
-    /// With TUNED: the least of the wakes.
+    /// With TUNED: no wake or expiry is sooner.
     pub soonest: u32,
     pub conditions: [Condition; 16],
     /// When each sleeper wakes; the greatest number for a thread that is not asleep.
@@ -98,7 +102,8 @@ pub struct Machine<const TUNED: bool> {
     pub holds: Holds,
     pub waits: Queue,
     pub reported: u16,
-    reports: [Report; 17],
+    pub timers: Timers,
+    reports: [Report; ROOM],
     given: usize,
     made: usize,
 }
@@ -115,7 +120,8 @@ impl<const TUNED: bool> Machine<TUNED> {
             holds: Holds::EMPTY,
             waits: Queue::EMPTY,
             reported: NOBODY,
-            reports: [Report { kind: 0, thread: 0 }; 17],
+            timers: Timers::UNARMED,
+            reports: [Report { kind: 0, operand: 0 }; ROOM],
             given: 0,
             made: 0,
         }
@@ -131,14 +137,15 @@ impl<const TUNED: bool> Machine<TUNED> {
         self.reports[..self.made].get(self.given).copied()
     }
 
-    pub fn report(&mut self, kind: u8, thread: u16) {
-        self.reports[self.made] = Report { kind, thread };
+    pub fn report(&mut self, kind: u8, operand: u16) {
+        self.reports[self.made] = Report { kind, operand };
         self.made += 1;
     }
 
     /// Takes one record, or says which rule it breaks and stays as it is. Called in two places, but wanted in the loop of the check.
     #[inline(always)]
     pub fn judge(&mut self, kind: u8, operand: u16) -> Result<(), u8> {
+        self.timers.in_order(kind)?;
         if kind >= READY {
             return self.hear(kind, operand);
         }
@@ -152,13 +159,17 @@ impl<const TUNED: bool> Machine<TUNED> {
                 return Ok(());
             }
             CREATE => self.create(operand)?,
+            ARM..=CANCEL => {
+                self.caller()?;
+                return self.set_timer(kind, operand);
+            }
             _ => self.call(self.caller()?, kind, operand)?,
         }
         self.settle();
         Ok(())
     }
 
-    /// A call that a thread makes.
+    /// A call that a thread makes on threads or sections.
     fn call(&mut self, caller: u16, kind: u8, operand: u16) -> Result<(), u8> {
         match kind {
             DELAY => self.delay(caller, operand),
@@ -177,7 +188,7 @@ impl<const TUNED: bool> Machine<TUNED> {
         Ok(self.reported)
     }
 
-    fn hear(&mut self, kind: u8, thread: u16) -> Result<(), u8> {
+    fn hear(&mut self, kind: u8, operand: u16) -> Result<(), u8> {
         if self.given == self.made {
             return Err(28);
         }
@@ -185,7 +196,7 @@ impl<const TUNED: bool> Machine<TUNED> {
         if first.kind != kind {
             return Err(29);
         }
-        if first.thread != thread {
+        if first.operand != operand {
             return Err(30);
         }
         self.given += 1;

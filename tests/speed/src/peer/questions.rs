@@ -71,7 +71,7 @@ pub fn records<'a, const TUNED: bool>(plan: &Plan, dump: &'a [u8]) -> Result<(&'
 }
 
 fn known(kind: u8) -> bool {
-    matches!(kind, CREATE..=TICK | READY..=YIELD)
+    matches!(kind, CREATE..=CANCEL | READY..=LATE)
 }
 
 fn by_kind(plan: &Plan, kinds: &[u8], operands: &[u8]) -> Result<(), u8> {
@@ -91,7 +91,9 @@ fn allowed(plan: &Plan, kind: u8, operand: u16) -> bool {
         CREATE | READY | WON | LOST | YIELD => (operand as usize) < plan.threads,
         SWITCH => (operand as usize) < plan.threads || operand == NOBODY,
         TAKE | GIVE => (operand as usize) < plan.sections,
-        DELAY => operand > 0,
+        ARM | CANCEL | EXPIRE => (operand as usize) < TIMERS,
+        DELAY | START => operand > 0,
+        PERIOD | LATE => true,
         _ => operand == 0,
     }
 }
@@ -105,7 +107,12 @@ fn by_table(plan: &Plan, kinds: &[u8], operands: &[u8]) -> Result<(), u8> {
     for kind in [TAKE, GIVE] {
         end[kind as usize] = plan.sections as u32;
     }
-    (first[DELAY as usize], end[DELAY as usize]) = (1, 65536);
+    for kind in [ARM, CANCEL, EXPIRE] {
+        end[kind as usize] = TIMERS as u32;
+    }
+    for (kind, least) in [(DELAY, 1), (START, 1), (PERIOD, 0), (LATE, 0)] {
+        (first[kind as usize], end[kind as usize]) = (least, 65536);
+    }
     let (mut kinds_good, mut operands_good) = (true, true);
     for (&kind, operand) in kinds.iter().zip(operands.chunks_exact(2)) {
         let operand = u16::from_le_bytes([operand[0], operand[1]]);

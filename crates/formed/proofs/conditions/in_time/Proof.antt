@@ -8,7 +8,7 @@ use borrow.Author.Tests.{le-leb, lt-leb}
 use lib.Dec.{leb}
 use Rattle.model.specs.Formed.{lastWake}
 use Rattle.model.proofs.Loops.{AllPass, all-begin, pass-kept, pass-lost, all-asked}
-use Rattle.machine.specs.View.{wakeOf}
+use Rattle.clock.specs.View.{numberAt}
 use Rattle.formed.proofs.conditions.in_time.Statement.{statement}
 use Rattle.formed.proofs.conditions.in_time.Tie as tie
 
@@ -16,13 +16,13 @@ abbrev early : ℕ → Bool
 early n = leb n lastWake
 
 abbrev Inv-loop : tie.InvT-loop
-Inv-loop wakes pass₀ t₀ pass t = (t ≤ 16) × AllPass early (wakeOf wakes) 16 t pass
+Inv-loop wakes pass₀ t₀ pass t = (t ≤ 16) × AllPass early (numberAt wakes) 16 t pass
 
 abbrev μ-loop : tie.MeasureT-loop
 μ-loop wakes pass₀ t₀ pass t = 16 - t
 
 loop-holds : tie.Need-loop-holds Inv-loop μ-loop
-loop-holds c = (omega arith, all-begin early (wakeOf (c .args .t1)) 16)
+loop-holds c = (omega arith, all-begin early (numberAt (c .args .t1)) 16)
 
 mul-wake : tie.Need-mul-wake Inv-loop μ-loop
 mul-wake c = search needs
@@ -39,7 +39,7 @@ loop-less c = search needs
 loop-again : tie.Need-loop-again Inv-loop μ-loop
 loop-again c =
     let k = c .before .before .before .before .before in
-    let wake : ℕ → ℕ = wakeOf (k .before .args .t1) in
+    let wake : ℕ → ℕ = numberAt (k .before .args .t1) in
     let lost = pass-lost early wake 16 (k .loop .t) (k .loop .pass) (omega arith) (k .loop .inv .1) (c .if1 .pass) in
     let kept = pass-kept early wake 16 (k .loop .t) (k .loop .pass) (omega arith) (k .loop .inv .1) (c .if1 .pass) in (
       omega arith,
@@ -52,7 +52,7 @@ loop-again c =
 returns : tie.Need-returns Inv-loop μ-loop
 returns c =
     let k = c .before in
-    all-asked early (wakeOf (k .before .args .t1)) 16 (k .loop .t) (k .loop .pass) (omega arith) (k .loop .inv .1)
+    all-asked early (numberAt (k .before .args .t1)) 16 (k .loop .t) (k .loop .pass) (omega arith) (k .loop .inv .1)
 
 pub in-time-spec : {M : Type 1} → statement M
 in-time-spec =

@@ -3,7 +3,7 @@ use borrow.Author.Needs.{needs}
 use lib.ListN.{drop}
 use Rattle.machine.specs.Lists.{owed}
 use Rattle.formed.specs.Contracts.{Counted}
-use Rattle.formed.proofs.Outside.{was-no, was-yes, counts-fit, refused-plan, refused-counts, refused-numbers, refused-holds, refused-threads, due-decides}
+use Rattle.formed.proofs.Outside.{was-no, was-yes, counts-fit, refused-plan, refused-counts, refused-numbers, refused-timers, refused-holds, refused-threads, due-decides}
 use Rattle.formed.proofs.formed.formed.Statement.{statement}
 use Rattle.formed.proofs.formed.formed.Tie as tie
 
@@ -49,33 +49,44 @@ returns-4 c =
     let s = k .before .before .before .before .before .before .before .before .before .before .before .before .args .state in
     refused-numbers (s .machine) (drop (s .given) (owed (s .due))) (was-no (k .numbers-in-range .ensures) (c .if4 .taken))
 
-once-requires : tie.Need-once-requires
-once-requires c κs =
-    let f = fits (c .before .before .before .before .before .before .before .before) in
-    (f .counts .holds', f .fits .sections)
+in-range-requires : tie.Need-in-range-requires
+in-range-requires c κs = search needs
 
 returns-5 : tie.Need-returns-5
 returns-5 c =
     let k = c .before in
     let s = k .before .before .before .before .before .before .before .before .before .before .before .before .before .before .before .args .state in
-    refused-holds (s .machine) (drop (s .given) (owed (s .due))) (was-no (k .once .ensures) (c .if5 .taken))
+    refused-timers (s .machine) (drop (s .given) (owed (s .due))) (was-no (k .in-range .ensures) (c .if5 .taken))
 
-in-range-requires : tie.Need-in-range-requires
-in-range-requires c κs = fits (c .before .before .before .before .before .before .before .before .before .before .before) .fits
+once-requires : tie.Need-once-requires
+once-requires c κs =
+    let f = fits (c .before .before .before .before .before .before .before .before .before .before .before) in
+    (f .counts .holds', f .fits .sections)
 
 returns-6 : tie.Need-returns-6
 returns-6 c =
+    let k = c .before in
+    let s = k .before .before .before .before .before .before .before .before .before .before .before .before .before .before .before .before .before .before .args .state in
+    refused-holds (s .machine) (drop (s .given) (owed (s .due))) (was-no (k .once .ensures) (c .if6 .taken))
+
+in-range-requires-2 : tie.Need-in-range-requires-2
+in-range-requires-2 c κs = fits (c .before .before .before .before .before .before .before .before .before .before .before .before .before .before) .fits
+
+returns-7 : tie.Need-returns-7
+returns-7 c =
     let o = c .before .before in
-    let n = o .before .before .before in
+    let i = o .before .before .before in
+    let n = i .before .before .before in
     let t = n .before .before in
     let p = t .before .before .before .before .before .before .before in
     let s = p .before .before .before .before .args .state in
     due-decides (s .machine) (drop (s .given) (owed (s .due)))
     (was-yes (p .before .passes .ensures) (p .if1 .left))
     (was-yes (n .before .numbers-in-range .ensures) (n .if4 .left))
-    (was-yes (o .before .once .ensures) (o .if5 .left))
+    (was-yes (i .before .in-range .ensures) (i .if5 .left))
+    (was-yes (o .before .once .ensures) (o .if6 .left))
     (was-yes (t .before .stand-once .ensures) (t .if3 .left))
-    (c .in-range .ensures)
+    (c .in-range2 .ensures)
 
 pub formed-spec : {M : Type 1} → statement M
 formed-spec =
@@ -89,7 +100,9 @@ formed-spec =
     returns-3
     numbers-in-range-requires
     returns-4
-    once-requires
-    returns-5
     in-range-requires
-    returns-6)
+    returns-5
+    once-requires
+    returns-6
+    in-range-requires-2
+    returns-7)

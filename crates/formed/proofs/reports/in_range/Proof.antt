@@ -1,4 +1,4 @@
--- `reports::in_range` meets its contract: a loop over the reports still to be given that asks whether all are reports of document 01's.
+-- `reports::in_range` meets its contract: a loop over the reports still to be given that asks whether all are reports of the papers'.
 use mathlib.Core.Path.{sym}
 use mathlib.Core.Logic.{⊎-elim}
 use mathlib.Core.Bool.{Bool}

@@ -27,7 +27,7 @@ first-due-requires : tie.Need-first-due-requires Inv-loop μ-loop
 first-due-requires c κs = owes c
 
 delivered-requires : tie.Need-delivered-requires Inv-loop μ-loop
-delivered-requires c κs = owes (c .before)
+delivered-requires c κs = (owes (c .before), c .first-due .ensures)
 
 loop-less : tie.Need-loop-less Inv-loop μ-loop
 loop-less c =

@@ -1,8 +1,11 @@
 -- `tally` meets its contract: after k calls the records so far are counted.
 use mathlib.Core.Path.{_≡_, refl, ap, sym, subst, _∙_}
+use mathlib.Core.Bool.{Bool, cond}
 use mathlib.Core.List.{List, [], _++_}
+use mathlib.Core.Option.{none, some}
 use Prim.Native.Nat.{_+_, _-_, _≤_, _<_}
 use native.Mathlib.Omega.{arith}
+use borrow.Author.Tests.{not-true, not-false}
 use lib.ListN.{length}
 use Rattle.model.specs.Records.{Record}
 use Rattle.machine.specs.View.{view}
@@ -51,7 +54,7 @@ returns c =
     record { admitted' = sym (ap isMade e); records' = sym (ap (λ o. length (recordsOf o)) e) }
 
 -- a list has few calls, and a call makes few records
-few : (c : tie.In-loop Inv-loop μ-loop) → (c .before .loop .k < 20000) × (c .before .loop .records ≤ 360000)
+few : (c : tie.In-loop Inv-loop μ-loop) → (c .before .loop .k < 20000) × (c .before .loop .records ≤ 520000)
 few c =
     let v = c .before .loop .inv in
     let k = c .loop-test .taken in
@@ -64,7 +67,7 @@ due-count-requires : tie.Need-due-count-requires Inv-loop μ-loop
 due-count-requires c κs = tt
 
 -- the call is admitted: its reports are few, and the state is well formed
-admitted : (c : tie.Else1 Inv-loop μ-loop) → (let o = c .before .before .before .step .result in (length (view (o .state) .due) ≤ 17) × IsFormed (o .state))
+admitted : (c : tie.Else1 Inv-loop μ-loop) → (let o = c .before .before .before .step .result in (length (view (o .state) .due) ≤ 25) × IsFormed (o .state))
 admitted c =
     let t = c .before .before .before in
     let l = t .before .before in
@@ -101,13 +104,27 @@ loop-again c =
     in
     (omega (arith, k), v .1 ++ added d (l .loop .k) (view (o .state)), count, n)
 
+is-complete-requires : tie.Need-is-complete-requires Inv-loop μ-loop
+is-complete-requires c κs = tt
+
+-- after the last call all is made, or an arming is in progress
+made-is : (c : tie.After-is-complete Inv-loop μ-loop) {b : Bool} → c .is-complete .result ≡ b
+    → (let l = c .before .before in madeOf (l .before .before .before .args .plan) (l .before .before .before .args .list .now) ≡ cond b (some (l .loop .inv .1)) none)
+made-is c e =
+    let l = c .before .before in
+    let v = l .loop .inv in
+    ap (λ p. madeOf p (l .before .before .before .args .list .now)) (sym (l .before .fresh .ensures .plan'))
+    ∙ made-all (passed l) (v .3) (c .before .loop-test .left) ∙ ap (λ b. cond b (some (v .1)) none) (sym (c .is-complete .ensures) ∙ e)
+
 returns-2 : tie.Need-returns-2 Inv-loop μ-loop
 returns-2 c =
-    let l = c .before in
-    let f = l .before .fresh in
-    let v = l .loop .inv in
-    let e = ap (λ p. madeOf p (l .before .before .before .args .list .now)) (sym (f .ensures .plan')) ∙ made-all (passed l) (v .3) (c .loop-test .left) in
-    record { admitted' = sym (ap isMade e); records' = v .2 ∙ sym (ap (λ o. length (recordsOf o)) e) }
+    let e = made-is (c .before) (not-true (c .before .is-complete .result) (c .if2 .taken)) in
+    record { admitted' = sym (ap isMade e); records' = sym (ap (λ o. length (recordsOf o)) e) }
+
+returns-3 : tie.Need-returns-3 Inv-loop μ-loop
+returns-3 c =
+    let e = made-is (c .before) (not-false (c .before .is-complete .result) (c .if2 .left)) in
+    record { admitted' = sym (ap isMade e); records' = c .before .before .before .loop .inv .2 ∙ sym (ap (λ o. length (recordsOf o)) e) }
 
 pub tally-spec : {M : Type 1} → statement M
 tally-spec =
@@ -126,4 +143,6 @@ tally-spec =
     add-k
     loop-less
     loop-again
-    returns-2)
+    is-complete-requires
+    returns-2
+    returns-3)

@@ -32,32 +32,29 @@ fits c = putting-fits (c .before .before .loop .inv) (c .before .before .before 
 first-due-requires : tie.Need-first-due-requires Inv-loop μ-loop
 first-due-requires c κs = owes c
 
-operand-of-requires : tie.Need-operand-of-requires Inv-loop μ-loop
-operand-of-requires c κs = c .before .first-due .ensures .kind'
-
 put-requires : tie.Need-put-requires Inv-loop μ-loop
 put-requires c κs =
-    let t = c .before .before .before in
+    let t = c .before .before in
     (fits t, omega (arith, t .before .before .loop .inv .size, t .before .before .before .before .pre .room))
 
 delivered-requires : tie.Need-delivered-requires Inv-loop μ-loop
-delivered-requires c κs = owes (c .before .before .before .before .before .before)
+delivered-requires c κs = let f = c .before .before .before .before in (owes (f .before), f .first-due .ensures)
 
 add-at : tie.Need-add-at Inv-loop μ-loop
 add-at c =
-    let t = c .before .before .before .before .before .before .before in
+    let t = c .before .before .before .before .before .before in
     record { fits = omega (arith, fits t, t .before .before .before .before .fits .n) }
 
 loop-less : tie.Need-loop-less Inv-loop μ-loop
 loop-less c =
-    let f = c .before .before .before .before .before .before in
+    let f = c .before .before .before .before .before in
     omega (arith, ap length (giving-due (f .before .before .before .loop .inv .giving) (f .first-due .ensures) (c .delivered .ensures)))
 
 loop-again : tie.Need-loop-again Inv-loop μ-loop
 loop-again c =
     let p = c .before .before .before in
-    let f = p .before .before .before in
-    putting-next (f .before .before .before .loop .inv) (f .first-due .result) (p .before .operand-of .result) (c .delivered .result) (p .put .last .0) (f .first-due .ensures) (c .delivered .ensures) (p .before .operand-of .ensures) (p .put .ensures)
+    let f = p .before .before in
+    putting-next (f .before .before .before .loop .inv) (f .first-due .result) (c .delivered .result) (p .put .last .0) (f .first-due .ensures) (c .delivered .ensures) (p .put .ensures)
 
 same-length : tie.Need-same-length Inv-loop μ-loop
 same-length c = c .before .before .loop .inv .size
@@ -74,7 +71,6 @@ put-reports-spec =
     loop-holds
     due-count-requires
     first-due-requires
-    operand-of-requires
     put-requires
     delivered-requires
     add-at

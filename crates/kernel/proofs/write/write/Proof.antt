@@ -12,7 +12,7 @@ use Rattle.kernel.specs.Answers.{recordsOf, atFront}
 use Rattle.kernel.specs.Contracts.{Passed, madeOf, recordsPut, AllFit}
 use Rattle.kernel.proofs.Placing.{from-size, from-next, counted, all-placed}
 use Rattle.kernel.proofs.CallList.{callAt, list-whole, calls-few, call-kind, call-operand}
-use Rattle.kernel.proofs.CallsMade.{CallsMade, added, added-count, made-begin, made-all, made-steps, made-admitted, made-within, made-formed, made-next}
+use Rattle.kernel.proofs.CallsMade.{CallsMade, added, added-count, made-begin, made-written, made-steps, made-admitted, made-within, made-formed, made-next}
 use Rattle.kernel.proofs.write.write.Statement.{statement}
 use Rattle.kernel.proofs.write.write.Tie as tie
 
@@ -143,7 +143,7 @@ returns c =
     let l = c .before in
     let s = l .before .before .before .before in
     let v = l .loop .inv in
-    let e = ap recordsOf (ap (λ p. madeOf p (s .args .list .now)) (sym (l .before .fresh .ensures .plan')) ∙ made-all (passed l) (v .3) (c .loop-test .left)) in
+    let e = ap recordsOf (ap (λ p. madeOf p (s .args .list .now)) (sym (l .before .fresh .ensures .plan')) ∙ made-written (passed l) (v .3) (c .loop-test .left) (space l .admitted)) in
     v .4 ∙ all-placed (s .args .n) (v .1) (s .args .out .now) (s .pre .1 .count ∙ ap length e) (s .pre .1 .room) ∙ ap (λ rs. atFront rs (s .args .out .now)) (sym e)
 
 pub write-spec : {M : Type 1} → statement M

@@ -1,4 +1,4 @@
--- `judged` meets its contract: the record is walked over with the ceilings and the chosen thread of the state, but for a Tick at which nobody wakes.
+-- `judged` meets its contract: the record is walked over with the ceilings and the chosen thread of the state, but for a Tick at which nothing happens.
 use mathlib.Core.Path.{_≡_, refl, ap, sym, subst, _∙_}
 use mathlib.Core.Logic.{inl}
 use Prim.Native.Nat.{_<_}
@@ -39,7 +39,7 @@ quieted-requires c κs =
 owes-requires : tie.Need-owes-requires
 owes-requires c κs = tt
 
--- the state, opened with the tick number before which nobody wakes
+-- the state, opened with the tick number before which nothing happens
 is-still : (c : tie.After-quieted) → (let w = c .before .before .before in c .quieted .result ≡ quieted (opened (start w .args .state) (w .chosen .result)))
 is-still c = c .quieted .ensures ∙ ap quieted (c .before .opened .ensures)
 

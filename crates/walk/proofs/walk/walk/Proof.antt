@@ -5,23 +5,23 @@ use mathlib.Core.Logic.{⊎-elim}
 use mathlib.Core.Bool.{true, _&&_}
 use Prim.Native.Nat.{ℕ, _-_, _≤_, _<_}
 use borrow.Author.Needs.{needs}
-use borrow.Author.Tests.{ltb-true, ltb-false}
 use lib.Dec.{T, eqb, ltb, eqb→eq, ltb→lt}
 use Rattle.model.specs.Records as records
 use Rattle.model.specs.Records.{call}
+use Rattle.model.specs.Rules.{stage, callPlace, inOrder}
 use Rattle.model.proofs.Tests.{from-true, and-left, and-right}
 use Rattle.machine.specs.declared.reporting.Reporting.{Reporting}
 use Rattle.machine.specs.Lists.{reportOf}
 use Rattle.machine.specs.View.{view, shown}
 use Rattle.machine.specs.Records as machine
 use Rattle.machine.specs.Contracts.{passed}
-use Rattle.machine.specs.Calls.{Apart, Asks, Calls, Answers, Called, Closes}
-use Rattle.machine.proofs.Laws.{heard-answers, unasked-answers, passed-answers}
+use Rattle.machine.specs.Calls.{Apart, Asks, Calls, Answers, Called, inPlace, Closes}
+use Rattle.machine.proofs.Laws.{named-place, arming-known, heard-answers, unasked-answers, passed-answers}
 use Rattle.dump.specs.Layout.{recordOf, recordAt}
 use Rattle.dump.specs.Questions.{operandFits}
 use Rattle.dump.proofs.Laws.{names}
 use Rattle.walk.specs.Contracts.{WalkEnds}
-use Rattle.walk.proofs.Walking.{Walking, as-came, as-opened, walk-begins, walk-ends, walk-within, walk-record, walk-reads, walk-asks, walk-breaks, walk-moves}
+use Rattle.walk.proofs.Walking.{heard-due, not-heard, plan-ceilings, Walking, as-came, as-opened, walk-begins, walk-ends, walk-within, walk-record, walk-reads, walk-asks, walk-breaks, walk-moves}
 use Rattle.walk.proofs.walk.walk.Statement.{statement}
 use Rattle.walk.proofs.walk.walk.Tie as tie
 
@@ -72,28 +72,41 @@ is-record e = let l = here e in walk-record (start l .args .bytes .now) (l .loop
 readable : (e : tie.After-entry-at Inv-loop μ-loop) → (let r = e .entry-at .result in T (operandFits 16 16 (r .kind) (r .operand)))
 readable e = let l = here e in walk-reads (start l .pre) (standing l) (e .before .loop-test .taken) (e .entry-at .ensures)
 
-owes-requires : tie.Need-owes-requires Inv-loop μ-loop
-owes-requires c κs = tt
+named : (e : tie.After-entry-at Inv-loop μ-loop) → (let r = e .entry-at .result in machine.Named (r .kind) (r .operand) (at e))
+named e = let r = e .entry-at .result in subst (machine.Named (r .kind) (r .operand)) (is-record e) (names (r .kind) (r .operand) (readable e))
 
-cast-heard : tie.Need-cast-heard Inv-loop μ-loop
-cast-heard c = search needs
+hears-requires : tie.Need-hears-requires Inv-loop μ-loop
+hears-requires c κs = arming-known (here c .loop .c) (asks c .formed')
 
--- something is due
-due : (t : tie.Then1 Inv-loop μ-loop) → (let c = here (t .before .before) .loop .c in c .given < c .due)
-due t = let c = here (t .before .before) .loop .c in ltb-true (c .given) (c .due) (sym (t .before .owes .ensures) ∙ t .if1 .taken)
+-- in its place something is due
+due : (t : tie.Then1 Inv-loop μ-loop) → (let e = t .before .before in let c = here e .loop .c in T (inPlace (c .machine) (e .entry-at .result .kind)) → c .given < c .due)
+due t o =
+    let e = t .before .before in
+    let c = here e .loop .c in
+    heard-due (c .given) (c .due) (inPlace (c .machine) (e .entry-at .result .kind)) (sym (t .before .hears .ensures) ∙ t .if1 .taken) o
 
 heard-requires : tie.Need-heard-requires Inv-loop μ-loop
-heard-requires c κs = let t = c .before in record { formed' = asks (t .before .before) .formed'; due' = due t }
+heard-requires c κs = record { formed' = asks (c .before .before) .formed'; due' = due c }
 
--- nothing is due
-undue : (t : tie.Else1 Inv-loop μ-loop) → (let c = here (t .before .before) .loop .c in c .due ≤ c .given)
-undue t = let c = here (t .before .before) .loop .c in ltb-false (c .given) (c .due) (sym (t .before .owes .ensures) ∙ t .if1 .left)
+-- nothing is due, and the record stands in its place
+unheard : (t : tie.Else1 Inv-loop μ-loop) → (let e = t .before .before in let c = here e .loop .c in (c .due ≤ c .given) × T (inOrder (shown c .timers .arming) (at e)))
+unheard t =
+    let e = t .before .before in
+    let c = here e .loop .c in
+    let u = not-heard (c .given) (c .due) (inPlace (c .machine) (e .entry-at .result .kind)) (sym (t .before .hears .ensures) ∙ t .if1 .left) in
+    (u .0, rw (named-place (named e)) (u .1))
 
--- a call that is record i, with nothing due
+-- a call that is record i, in its place and with nothing due
 calls : (t : tie.Else1 Inv-loop μ-loop) {k : records.Call} → at (t .before .before) ≡ call k → Calls (here (t .before .before) .loop .c) (start (here (t .before .before)) .args .ceilings .now) k
-calls t e =
-    let n = t .before .before in
-    record { asks = subst (λ r. Asks (here n .loop .c) (start (here n) .args .ceilings .now) r) e (asks n); undue = undue t }
+calls t {k} q =
+    let e = t .before .before in
+    let c = here e .loop .c in
+    let u = unheard t in
+    record {
+      asks = subst (λ r. Asks c (start (here e) .args .ceilings .now) r) q (asks e);
+      undue = u .0;
+      ordered = eqb→eq (stage (shown c .timers .arming)) (callPlace k) (subst (λ r. T (inOrder (shown c .timers .arming) r)) q (u .1));
+    }
 
 -- kind 7 is Tick
 is-tick : (t : tie.Then2 Inv-loop μ-loop) → at (t .before .before .before .before) ≡ call records.Tick
@@ -163,8 +176,15 @@ enum-told-3 c = search needs
 tick-requires : tie.Need-tick-requires Inv-loop μ-loop
 tick-requires c κs = let o = c .before .before in calls (undue-at o) (is-read o (ap machine.recordOf (c .enum-told3 .given .1)))
 
+enum-known-k : tie.Need-enum-known-k Inv-loop μ-loop
+enum-known-k c = search needs
+
 enum-told-4 : tie.Need-enum-told-4 Inv-loop μ-loop
 enum-told-4 c = search needs
+
+-- its ceilings are those of its plan
+timing-requires : tie.Need-timing-requires Inv-loop μ-loop
+timing-requires c κs = let o = c .before .before .before in let a = calls (undue-at o) (is-read o (ap machine.recordOf (c .before .k .given .1))) in plan-ceilings a
 
 unasked-requires : tie.Need-unasked-requires Inv-loop μ-loop
 unasked-requires c κs = tt
@@ -187,22 +207,23 @@ answered j =
     let e = o .before in
     let old = here e .loop .c in
     ⊎-elim
-    (λ w. is (w .3) (heard-answers (asks e) (due (record { before = o; if1 = w .0 })) (w .2 .ensures) (subst (machine.Named _ _) (is-record e) (names (e .entry-at .result .kind) (e .entry-at .result .operand) (readable e)))))
+    (λ w. is (w .2) (heard-answers (asks e) (w .1 .ensures) (due (record { before = o; if1 = w .0 })) (named e)))
     (⊎-elim
     (λ w.
-    let t : tie.Then2 Inv-loop μ-loop = record { before = record { before = record { before = o; if1 = w .0 }; struct-known2 = w .1 }; if2 = w .2 } in
+    let t : tie.Then2 Inv-loop μ-loop = record { before = record { before = record { before = o; if1 = w .0 }; struct-known = w .1 }; if2 = w .2 } in
     let q = both (sym (w .3 .ensures) ∙ w .4 .taken) in
     is (w .6 ∙ w .5 .ensures) (subst (λ y. Answers (passed old) old y) (sym (is-tick t)) (passed-answers (ticks t) (here e .loop .inv .0) (q .0) (q .1))))
-    (⊎-elim (λ w. made (record { before = record { before = record { before = record { before = o; if1 = w .0 }; struct-known2 = w .1 }; if2 = w .2 }; record-of = w .3 }) (ap machine.recordOf (w .5 .given .1)) (w .8) (w .7 .ensures))
-    (⊎-elim (λ w. made (record { before = record { before = record { before = record { before = o; if1 = w .0 }; struct-known2 = w .1 }; if2 = w .2 }; record-of = w .3 }) (ap machine.recordOf (w .5 .given .1)) (w .8) (w .7 .ensures))
-    (⊎-elim (λ w. made (record { before = record { before = record { before = record { before = o; if1 = w .0 }; struct-known2 = w .1 }; if2 = w .2 }; record-of = w .3 }) (ap machine.recordOf (w .5 .given .1)) (w .7) (w .6 .ensures))
-    (⊎-elim (λ w. made (record { before = record { before = record { before = record { before = o; if1 = w .0 }; struct-known2 = w .1 }; if2 = w .2 }; record-of = w .3 }) (ap machine.recordOf (w .5 .given .1)) (w .7) (w .6 .ensures))
-    (⊎-elim (λ w. made (record { before = record { before = record { before = record { before = o; if1 = w .0 }; struct-known2 = w .1 }; if2 = w .2 }; record-of = w .3 }) (ap machine.recordOf (w .5 .given .1)) (w .8) (w .7 .ensures))
-    (⊎-elim (λ w. made (record { before = record { before = record { before = record { before = o; if1 = w .0 }; struct-known2 = w .1 }; if2 = w .2 }; record-of = w .3 }) (ap machine.recordOf (w .5 .given .1)) (w .8) (w .7 .ensures))
-    (⊎-elim (λ w. made (record { before = record { before = record { before = record { before = o; if1 = w .0 }; struct-known2 = w .1 }; if2 = w .2 }; record-of = w .3 }) (ap machine.recordOf (w .5 .given .1)) (w .7) (w .6 .ensures))
+    (⊎-elim (λ w. made (record { before = record { before = record { before = record { before = o; if1 = w .0 }; struct-known = w .1 }; if2 = w .2 }; record-of = w .3 }) (ap machine.recordOf (w .5 .given .1)) (w .8) (w .7 .ensures))
+    (⊎-elim (λ w. made (record { before = record { before = record { before = record { before = o; if1 = w .0 }; struct-known = w .1 }; if2 = w .2 }; record-of = w .3 }) (ap machine.recordOf (w .5 .given .1)) (w .8) (w .7 .ensures))
+    (⊎-elim (λ w. made (record { before = record { before = record { before = record { before = o; if1 = w .0 }; struct-known = w .1 }; if2 = w .2 }; record-of = w .3 }) (ap machine.recordOf (w .5 .given .1)) (w .7) (w .6 .ensures))
+    (⊎-elim (λ w. made (record { before = record { before = record { before = record { before = o; if1 = w .0 }; struct-known = w .1 }; if2 = w .2 }; record-of = w .3 }) (ap machine.recordOf (w .5 .given .1)) (w .7) (w .6 .ensures))
+    (⊎-elim (λ w. made (record { before = record { before = record { before = record { before = o; if1 = w .0 }; struct-known = w .1 }; if2 = w .2 }; record-of = w .3 }) (ap machine.recordOf (w .5 .given .1)) (w .8) (w .7 .ensures))
+    (⊎-elim (λ w. made (record { before = record { before = record { before = record { before = o; if1 = w .0 }; struct-known = w .1 }; if2 = w .2 }; record-of = w .3 }) (ap machine.recordOf (w .5 .given .1)) (w .8) (w .7 .ensures))
+    (⊎-elim (λ w. made (record { before = record { before = record { before = record { before = o; if1 = w .0 }; struct-known = w .1 }; if2 = w .2 }; record-of = w .3 }) (ap machine.recordOf (w .5 .given .1)) (w .7) (w .6 .ensures))
+    (⊎-elim (λ w. made (record { before = record { before = record { before = record { before = o; if1 = w .0 }; struct-known = w .1 }; if2 = w .2 }; record-of = w .3 }) (ap machine.recordOf (w .5 .given .1)) (w .8) (w .7 .ensures))
     (λ w.
-    let r : tie.After-record-of Inv-loop μ-loop = record { before = record { before = record { before = record { before = o; if1 = w .0 }; struct-known2 = w .1 }; if2 = w .2 }; record-of = w .3 } in
-    is (w .7 ∙ w .6 .ensures) (unasked-answers (asks e) (undue (undue-at r)) (reportOf (w .5 .given .0 .0)) (is-read r (ap machine.recordOf (w .5 .given .1)))))))))))))
+    let r : tie.After-record-of Inv-loop μ-loop = record { before = record { before = record { before = record { before = o; if1 = w .0 }; struct-known = w .1 }; if2 = w .2 }; record-of = w .3 } in
+    is (w .7 ∙ w .6 .ensures) (let u = unheard (undue-at r) in unasked-answers (asks e) (u .1) (u .0) (reportOf (w .5 .given .0 .0)) (is-read r (ap machine.recordOf (w .5 .given .1))))))))))))))
     (j .if1 .came)
 
 add-i : tie.Need-add-i Inv-loop μ-loop
@@ -226,7 +247,7 @@ closed-requires c κs =
     let l = c .before in
     ⊎-elim
     (λ w. subst Apart (sym (w .1)) (standing l .stands .apart'))
-    (λ w. subst Apart (sym (w .6)) (answered (record { before = record { before = record { before = record { before = l; loop-test = w .0 }; entry-at = w .1 }; owes = w .2 }; if1 = w .3 }) .stands' .apart'))
+    (λ w. subst Apart (sym (w .6)) (answered (record { before = record { before = record { before = record { before = l; loop-test = w .0 }; entry-at = w .1 }; hears = w .2 }; if1 = w .3 }) .stands' .apart'))
     (c .loop-test .came)
 
 returns : tie.Need-returns Inv-loop μ-loop
@@ -240,7 +261,7 @@ returns c =
     subst (λ (x : Reporting). WalkEnds (record { state = s; chosen = x .chosen; at = l .loop .i; rule = x .rule }) (a .s) (a .bytes .now) (a .from) (a .to)) (sym (w .1))
     (walk-ends (start l .pre) (standing l) (l .loop .inv .0) (w .0 .left) (subst (Closes s) (w .1) (c .closed .ensures))))
     (λ w.
-    let j : tie.Joined1 Inv-loop μ-loop = record { before = record { before = record { before = record { before = l; loop-test = w .0 }; entry-at = w .1 }; owes = w .2 }; if1 = w .3 } in
+    let j : tie.Joined1 Inv-loop μ-loop = record { before = record { before = record { before = record { before = l; loop-test = w .0 }; entry-at = w .1 }; hears = w .2 }; if1 = w .3 } in
     subst (λ (x : Reporting). WalkEnds (record { state = s; chosen = x .chosen; at = l .loop .i; rule = x .rule }) (a .s) (a .bytes .now) (a .from) (a .to)) (sym (w .6))
     (walk-breaks (start l .pre) (standing l) (w .0 .taken) (answered j) (w .5 .taken) (subst (Closes s) (w .6) (c .closed .ensures))))
     (f .loop-test .came)
@@ -254,8 +275,7 @@ walk-spec =
     opened-requires
     loop-holds
     entry-at-requires
-    owes-requires
-    cast-heard
+    hears-requires
     heard-requires
     is-quiet-requires
     passed-requires
@@ -274,6 +294,8 @@ walk-spec =
     give-requires
     enum-told-3
     tick-requires
+    enum-known-k
+    timing-requires
     enum-told-4
     unasked-requires
     add-i

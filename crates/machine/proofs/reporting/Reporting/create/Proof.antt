@@ -69,7 +69,8 @@ made c =
           (ap (λ (k : Slots). conditionsOf (m .plan .threads) k (m .wakes)) (w .1 .ensures) ∙ placed-seen (m .plan .threads) (m .slots) (m .wakes) (s .args .thread) 1 (omega arith))
           (w .3 .ensures)
           refl refl refl
-          (w .4 .ensures);
+          (w .4 .ensures)
+          refl;
     }))
     (λ w. refuses e (w .0 .left) (w .2) (ap reportsIn (w .1)) none')
     (c .if1 .came)

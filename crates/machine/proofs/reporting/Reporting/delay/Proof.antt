@@ -22,12 +22,13 @@ use Rattle.machine.proofs.Room.{caller-fits}
 use Rattle.machine.proofs.Chosen.{listed}
 use Rattle.machine.proofs.Views.{sleeps-seen}
 use Rattle.machine.proofs.Meets.{alike}
-use Rattle.machine.proofs.Outcomes.{caller-asked, call-settles, call-answers}
+use Rattle.machine.proofs.Quieted.{unknown-quiet}
+use Rattle.machine.proofs.Outcomes.{caller-asked, short-wait, call-settles, call-answers}
 use Rattle.machine.proofs.reporting.Reporting.delay.Statement.{statement}
 use Rattle.machine.proofs.reporting.Reporting.delay.Tie as tie
 
 -- where the rule's answer is 0, the caller is the chosen thread
-admitted : {m : Machine} {x rule : ℕ} → Asked m x → (n : ℕ) → rule ≡ freeRule (m .holds) x → rule ≡ 0 → Runs m x
+admitted : {m : Machine} {x rule : ℕ} → Asked m x 0 → (n : ℕ) → rule ≡ freeRule (m .holds) x → rule ≡ 0 → Runs m x
 admitted a n e z = delays a n (sym (delay-rule a n) ∙ sym e ∙ z)
 
 free-rule-requires : tie.Need-free-rule-requires
@@ -36,10 +37,10 @@ free-rule-requires c κs = listed (facts (caller-asked (c .before .before .pre) 
 -- the tick number has room for the wait, and for one more
 
 plus-requires : tie.Need-plus-requires
-plus-requires c κs = omega (arith, facts (caller-asked (c .before .before .before .before .before .pre) .formed) .tick)
+plus-requires c κs = let a = c .before .before .before .before .before .pre in omega (arith, facts (caller-asked a .formed) .tick, short-wait a)
 
 next-requires : tie.Need-next-requires
-next-requires c κs = omega (arith, c .plus .ensures, facts (caller-asked (c .before .before .before .before .before .before .pre) .formed) .tick)
+next-requires c κs = let a = c .before .before .before .before .before .before .pre in omega (arith, c .plus .ensures, facts (caller-asked a .formed) .tick, short-wait a)
 
 -- where no rule is broken the caller is a thread
 fits : (c : tie.Then1) → c .before .before .before .before .args .self .chosen < 16
@@ -90,7 +91,8 @@ made c none' =
           ∙ ap (λ u. set (conditionsOf (m .plan .threads) (m .slots) (m .wakes)) x (asleep u)) (w .3 .ensures ∙ ap (λ u. u + 1) (w .2 .ensures)))
           (w .8 .ensures)
           refl refl refl
-          none';
+          none'
+          refl;
     }))
     (λ w. refuses e (w .0 .left) (w .1) refl none')
     (c .if1 .came)
@@ -109,7 +111,7 @@ returns c =
     let n = c .before in
     let h = n .before in
     let j = h .before in
-    rw (c .owing .ensures) (record { answers = call-answers (start j .pre) (made j (n .cleared .ensures)) (h .chosen .ensures) (λ t k l q. omega arith); quiet' = refl })
+    rw (c .owing .ensures) (record { answers = call-answers (start j .pre) (made j (n .cleared .ensures)) (h .chosen .ensures) (unknown-quiet (j .if1 .m)); quiet' = refl })
 
 pub delay-spec : {M : Type 1} → statement M
 delay-spec =

@@ -24,7 +24,7 @@ use Rattle.machine.proofs.reporting.Reporting.end.Statement.{statement}
 use Rattle.machine.proofs.reporting.Reporting.end.Tie as tie
 
 -- where the rule's answer is 0, the caller is the chosen thread
-admitted : {m : Machine} {x rule : ℕ} → Asked m x → rule ≡ freeRule (m .holds) x → rule ≡ 0 → Runs m x
+admitted : {m : Machine} {x rule : ℕ} → Asked m x 0 → rule ≡ freeRule (m .holds) x → rule ≡ 0 → Runs m x
 admitted a e z = ends a (sym (end-rule a) ∙ sym e ∙ z)
 
 free-rule-requires : tie.Need-free-rule-requires
@@ -62,7 +62,8 @@ made c none' =
           (ap (λ (k : Slots). conditionsOf (m .plan .threads) k (m .wakes)) (w .2 .ensures) ∙ placed-seen (m .plan .threads) (m .slots) (m .wakes) (s .args .self .chosen) 0 (omega arith))
           (w .4 .ensures)
           refl refl refl
-          none';
+          none'
+          refl;
     }))
     (λ w. refuses e (w .0 .left) (w .1) refl none')
     (c .if1 .came)

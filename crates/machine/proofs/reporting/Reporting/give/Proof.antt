@@ -20,13 +20,14 @@ use Rattle.lists.specs.Words.{nibble, entryOf}
 use Rattle.lists.specs.Lists.{numbered, queued, held}
 use Rattle.lists.specs.Choice.{inheritsIn}
 use Rattle.machine.specs.declared.slots.Slots.{Slots}
-use Rattle.machine.specs.View.{wakeOf, conditionsOf, planOf, idle, reportsIn}
+use Rattle.machine.specs.View.{conditionsOf, planOf, idle, reportsIn}
 use Rattle.machine.specs.Contracts.{Ceilings}
 use Rattle.machine.proofs.Admitted.{Gives, Makes, admits, refuses, by}
 use Rattle.machine.proofs.Asking.{give-rule, gives}
 use Rattle.machine.proofs.Conditions.{wants-it}
 use Rattle.machine.proofs.Facts.{Facts, facts}
 use Rattle.lists.proofs.Laws.{length-held}
+use Rattle.clock.specs.View.{numberAt}
 use Rattle.machine.proofs.Views.{condition-at, placed-seen}
 use Rattle.machine.proofs.Room.{waiting-known, waiting-fits, waiting-room, held-once, give-room}
 use Rattle.machine.proofs.Chosen.{listed, above-is, heir-same, inherits-same, waits-positive}
@@ -71,7 +72,7 @@ module _ (m : Machine) (f : Facts m) (who : ℕ) (e : who ≡ numbered (firstGre
       let r = f .agree .waiting' who i in
       let s = r .0 in
       let at = sym (condition-at (m .plan .threads) (m .slots) (m .wakes) who (waiting-known f who i)) ∙ r .1 in
-      wants-it (nibble (m .slots .states) who) (nibble (m .slots .wants) who) (wakeOf (m .wakes) who) s at (omega (arith, f .wants who s (r .1), f .fits .sections)) ∙ sym (ap wanted (r .1))
+      wants-it (nibble (m .slots .states) who) (nibble (m .slots .wants) who) (numberAt (m .wakes) who) s at (omega (arith, f .wants who s (r .1), f .fits .sections)) ∙ sym (ap wanted (r .1))
 
   heir-fits : (who ≡ 255 → ⊥) → who < 16
   heir-fits d = waiting-fits f who (waits-for d)
@@ -220,7 +221,8 @@ made c =
           (w .3 .ensures ∙ ap₂ (λ (k : ℕ) (hs : List Hold). hold k t ∷ hs) (w .2 .ensures ∙ wants-is m f t (e .0) d) left)
           (w .4 .ensures)
           refl
-          (w .9 .ensures ∙ ap (λ l. l ++ (Ready t ∷ [])) (w .8 .ensures)));
+          (w .9 .ensures ∙ ap (λ l. l ++ (Ready t ∷ [])) (w .8 .ensures))
+          refl);
     }))
     (⊎-elim
     (λ w.
@@ -231,11 +233,11 @@ made c =
       seen =
           lost-seen (planOf m) x n (idle m) t o
           (tested m (s .args .ceilings .now) f (s .pre .asks .ceilings') t o left (v .2 .result .free) false (e .1) (w .0 .left))
-          (alike refl refl refl left refl refl (w .2 .ensures));
+          (alike refl refl refl left refl refl (w .2 .ensures) refl);
     }))
     (λ w.
     rw (w .2, w .3, w .4)
-    (record { plan' = refl; seen = none-seen (planOf m) x n (idle m) (nobody m f t (e .0) (w .1 .left)) (alike refl refl refl left refl refl none') })))
+    (record { plan' = refl; seen = none-seen (planOf m) x n (idle m) (nobody m f t (e .0) (w .1 .left)) (alike refl refl refl left refl refl none' refl) })))
     (v .3 .came)))
     (λ v. refuses q (v .0 .left) (v .2) (ap reportsIn (v .1)) none')
     (c .if1 .came)

@@ -15,7 +15,7 @@ element-set-from-c c = search needs
 returns : tie.Need-returns
 returns c =
     let a = c .args in
-    ap (λ x. reportOf x ∷ []) (getD-set-same (a .self .reports) 0 (record { kind = a .kind; who = a .who }) noReport (omega (arith, reporting-size (a .self) (c .good .0))))
+    ap (λ x. reportOf x ∷ []) (getD-set-same (a .self .reports) 0 (record { kind = a .kind; spare = 0; operand = a .who }) noReport (omega (arith, reporting-size (a .self) (c .good .0))))
 
 pub one-spec : {M : Type 1} → statement M
 one-spec = tie.close (tie.spec element-set-from-c returns)

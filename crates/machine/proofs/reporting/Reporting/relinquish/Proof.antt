@@ -39,7 +39,7 @@ stays : (p : Plan) (x : ℕ) (st : State) → rivalled p x st ≡ false → reli
 unfolding relinquish
 stays p x st e = rw e
 
-module _ {m : Machine} {x : ℕ} (a : Asked m x) where
+module _ {m : Machine} {x : ℕ} (a : Asked m x 0) where
   -- where the rule's answer is 0, the caller is the chosen thread
   admitted : {rule : ℕ} → rule ≡ runRule x → rule ≡ 0 → Runs m x
   admitted e z = relinquishes a (sym (relinquish-rule a) ∙ sym e ∙ z)
@@ -104,14 +104,15 @@ made c =
           alike refl refl
           (w .9 .ensures ∙ ap (λ l. l ++ (x ∷ [])) (w .8 .ensures))
           refl refl refl
-          (w .10 .ensures);
+          (w .10 .ensures)
+          refl;
     }))
     (⊎-elim
     (λ w.
     let g = admitted a (k .run-rule .ensures) (w .0 .taken) in
     let t = tested a (s .args .ceilings .now) (s .pre .asks .ceilings') (w .6 .result) false (caller-known g) (w .6 .ensures) (w .7 .left) in
     admits e (by g (relinquish (planOf m)) ∙ stays (planOf m) x (idle m) t) (w .0 .taken) (w .9) (ap reportsIn (w .8))
-    (record { plan' = refl; seen = alike refl refl refl refl refl refl none' }))
+    (record { plan' = refl; seen = alike refl refl refl refl refl refl none' refl }))
     (λ w. refuses e (w .0 .left) (w .2) (ap reportsIn (w .1)) none'))
     (c .if1 .came)
 

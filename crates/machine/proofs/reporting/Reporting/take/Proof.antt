@@ -126,7 +126,7 @@ made c =
       seen =
           won-seen (planOf m) x n (idle m)
           (above (w .1 .result) (w .2 .result) true (w .1 .ensures) (w .2 .ensures) (w .3 .taken))
-          (alike refl refl refl (w .4 .ensures) refl refl (w .5 .ensures));
+          (alike refl refl refl (w .4 .ensures) refl refl (w .5 .ensures) refl);
     }))
     (⊎-elim
     (λ w.
@@ -142,7 +142,8 @@ made c =
           refl
           (w .9 .ensures)
           refl
-          (w .10 .ensures));
+          (w .10 .ensures)
+          refl);
     }))
     (λ w. refuses e (w .0 .left) (w .2) (ap reportsIn (w .1)) (r .before .before .before .before .before .before .cleared .ensures)))
     (c .if1 .came)

@@ -1,4 +1,4 @@
--- `tick` meets its contract: after i turns the sleepers below i whose tick number this is are woken.
+-- `tick` meets its contract: the timers whose tick number this is are reported, and after i turns the sleepers below i whose number it is are woken.
 use mathlib.Core.Path.{_≡_, refl, ap, sym, subst, _∙_}
 use mathlib.Core.Logic.{⊎-elim}
 use mathlib.Core.Bool.{_&&_}
@@ -8,46 +8,48 @@ use native.Mathlib.Omega.{arith}
 use lib.Dec.{eqb}
 use Rattle.model.specs.State.{allReady}
 use Rattle.model.specs.Records as records
-use Rattle.model.specs.Records.{Ready}
+use Rattle.model.specs.Records.{Ready, Expire}
+use Rattle.model.specs.Timers.{expired, moveOn}
 use Rattle.model.specs.Calls.{tick, sleepsUntil, sleepers}
 use Rattle.lists.specs.Words.{nibble}
 use Rattle.machine.specs.declared.Machine.{Machine}
 use Rattle.machine.specs.declared.reports.Reports.{Reports}
 use Rattle.machine.specs.declared.reporting.Reporting.{Reporting}
 use Rattle.machine.specs.Contracts.{owing}
-use Rattle.machine.specs.Calls.{Called}
+use Rattle.machine.specs.Calls.{Quiet, Called}
 use Rattle.lists.specs.Lists.{queued}
-use Rattle.machine.specs.Lists.{owed}
-use Rattle.machine.specs.View.{wakeOf, conditionIn, idle}
+use Rattle.clock.specs.View.{numberAt}
+use Rattle.machine.specs.Lists.{reportRoom, owed}
+use Rattle.machine.specs.View.{conditionIn, idle}
 use Rattle.machine.proofs.Admitted.{Makes, admits}
 use Rattle.machine.proofs.Asking.{tick-rule}
 use Rattle.machine.proofs.Conditions.{sleeps-state}
 use Rattle.machine.proofs.Facts.{facts}
 use Rattle.machine.proofs.Meets.{alike}
 use Rattle.machine.proofs.Woken.{Woken, woken-begin, woken-done, passes, wakes, wakes-room}
-use Rattle.machine.proofs.Quieted.{Quiet, soonest-quiet}
+use Rattle.machine.proofs.Quieted.{next-quiet}
 use Rattle.machine.proofs.Outcomes.{tick-asked, call-settles, call-answers}
 use Rattle.machine.proofs.reporting.Reporting.tick.Statement.{statement}
 use Rattle.machine.proofs.reporting.Reporting.tick.Tie as tie
 
 abbrev Inv-loop : tie.InvT-loop
-Inv-loop self ceilings m n number old wakes slots₀ queue₀ rs₀ i₀ slots queue rs i = (i ≤ n) × (n ≤ 16) × Woken m (number .0) slots queue rs i
+Inv-loop self ceilings m n number old wakes timers slots₀ queue₀ rs₀ i₀ slots queue rs i = (i ≤ n) × (n ≤ 16) × Woken m (number .0) slots queue rs i
 
 abbrev μ-loop : tie.MeasureT-loop
-μ-loop self ceilings m n number old wakes slots₀ queue₀ rs₀ i₀ slots queue rs i = n - i
+μ-loop self ceilings m n number old wakes timers slots₀ queue₀ rs₀ i₀ slots queue rs i = n - i
 
 next-requires : tie.Need-next-requires Inv-loop μ-loop
 next-requires c κs = omega (arith, tick-asked (c .before .before .before .pre) .room)
 
-none-requires : tie.Need-none-requires Inv-loop μ-loop
-none-requires c κs = tt
+expired-requires : tie.Need-expired-requires Inv-loop μ-loop
+expired-requires c κs = omega (arith, c .before .before .before .before .before .next .ensures)
 
 loop-holds : tie.Need-loop-holds Inv-loop μ-loop
 loop-holds c =
-    let a = c .before .before .before .before .before in
+    let a = c .before .before .before .before .before .before in
     let s = a .before .before .before .before in
     let m = s .args .self .machine in
-    (omega arith, facts (tick-asked (s .pre) .formed) .fits .threads, woken-begin m (a .next .result .0) (c .none .result) (c .none .ensures))
+    (omega arith, facts (tick-asked (s .pre) .formed) .fits .threads, woken-begin m (a .next .result .0) (c .expired .result) (c .expired .ensures))
 
 below : (c : tie.In-loop Inv-loop μ-loop) → c .before .loop .i < 16
 below c = omega (arith, c .before .loop .inv .1, c .loop-test .taken)
@@ -82,7 +84,7 @@ abbrev here : tie.After-sleeps-until Inv-loop μ-loop → tie.At-loop Inv-loop �
 here c = c .before .before .before .before
 
 abbrev numbered-next : tie.At-loop Inv-loop μ-loop → tie.After-next Inv-loop μ-loop
-numbered-next l = l .before .before .before .before .before .before
+numbered-next l = l .before .before .before .before .before .before .before
 
 abbrev start : tie.At-loop Inv-loop μ-loop → tie.Start Inv-loop μ-loop
 start l = numbered-next l .before .before .before .before
@@ -98,11 +100,11 @@ wakes-now c =
     let i = l .loop .i in
     let number = numbered-next l .next .result .0 in
     c .sleeps-until .ensures
-    ∙ ap (λ s. eqb s 2 && eqb (wakeOf (m .wakes) i) number) (c .before .before .nibble-at .ensures)
-    ∙ sym (sleeps-state (nibble (m .slots .states) i) (nibble (m .slots .wants) i) (wakeOf (m .wakes) i) number)
+    ∙ ap (λ s. eqb s 2 && eqb (numberAt (m .wakes) i) number) (c .before .before .nibble-at .ensures)
+    ∙ sym (sleeps-state (nibble (m .slots .states) i) (nibble (m .slots .wants) i) (numberAt (m .wakes) i) number)
 
 -- the queue and the reports have room for a sleeper that wakes
-room : (c : tie.Then1 Inv-loop μ-loop) → (let l = here (c .before) in (l .loop .queue .count < 16) × (l .loop .rs .count < 17))
+room : (c : tie.Then1 Inv-loop μ-loop) → (let l = here (c .before) in (l .loop .queue .count < 16) × (l .loop .rs .count < reportRoom))
 room c =
     let l = here (c .before) in
     let s = start l in
@@ -137,25 +139,32 @@ loop-again c =
     (λ w. (omega (arith, k), v .1, rw (w .1, w .2, w .3) (passes m number (v .2) k (sym (w .0 .left) ∙ e))))
     (c .if1 .came)
 
-soonest-requires : tie.Need-soonest-requires Inv-loop μ-loop
-soonest-requires c κs = c .before .loop .inv .1
+moved-on-requires : tie.Need-moved-on-requires Inv-loop μ-loop
+moved-on-requires c κs =
+    let l = c .before in
+    let e = numbered-next l .next .ensures in
+    (omega (arith, e), omega (arith, e, tick-asked (start l .pre) .room))
+
+next-event-requires : tie.Need-next-event-requires Inv-loop μ-loop
+next-event-requires c κs = c .before .before .loop .inv .1
 
 -- what is left before the Switch
 
-abbrev ticked : tie.At-loop Inv-loop μ-loop → Machine
-ticked l =
+abbrev ticked : tie.After-moved-on Inv-loop μ-loop → Machine
+ticked c =
+    let l = c .before .before in
     let m = start l .args .self .machine in
-    record { plan = m .plan; tick = numbered-next l .next .result; slots = l .loop .slots; wakes = m .wakes; queue = l .loop .queue; holds = m .holds; waits = m .waits; reported = m .reported }
+    record { plan = m .plan; tick = numbered-next l .next .result; slots = l .loop .slots; wakes = m .wakes; queue = l .loop .queue; holds = m .holds; waits = m .waits; reported = m .reported; timers = c .moved-on .result }
 
-made : (c : tie.After-loop Inv-loop μ-loop) → Makes (ticked (c .before)) (c .before .loop .rs) 0 (start (c .before) .args .self .machine) records.Tick
+made : (c : tie.After-moved-on Inv-loop μ-loop) → (let l = c .before .before in Makes (ticked c) (l .loop .rs) 0 (start l .args .self .machine) records.Tick)
 unfolding tick
 made c =
-    let l = c .before in
+    let l = c .before .before in
     let m = start l .args .self .machine in
     let number = numbered-next l .next .result .0 in
     let z : number ≡ suc (m .tick .0) = omega (arith, numbered-next l .next .ensures) in
-    let w = woken-done m number (l .loop .inv .2) (omega (arith, l .loop .inv .0, c .loop-test .left)) in
-    admits (tick-rule m) refl refl refl refl
+    let w = woken-done m number (l .loop .inv .2) (omega (arith, l .loop .inv .0, c .before .loop-test .left)) in
+    admits (tick-rule (tick-asked (start l .pre))) refl refl refl refl
     (record {
       plan' = refl;
       seen =
@@ -163,11 +172,12 @@ made c =
           (w .conditions ∙ ap (λ n. allReady (sleepers n (idle m)) (idle m .conditions)) z)
           (w .queue' ∙ ap (λ n. queued (m .queue) ++ sleepers n (idle m)) z)
           refl refl refl
-          (w .reports ∙ ap (λ n. map Ready (sleepers n (idle m))) z);
+          (w .reports ∙ ap (λ n. map Expire (expired n (idle m .timers)) ++ map Ready (sleepers n (idle m))) z)
+          (c .moved-on .ensures ∙ ap (λ n. moveOn n (idle m .timers)) z);
     })
 
 chosen-requires : tie.Need-chosen-requires Inv-loop μ-loop
-chosen-requires c κs = let l = c .before in call-settles (start (l .before) .pre) (made l) .chooses
+chosen-requires c κs = let l = c .before in call-settles (start (l .before .before) .pre) (made l) .chooses
 
 telling-requires : tie.Need-telling-requires Inv-loop μ-loop
 telling-requires c κs = tt
@@ -175,19 +185,19 @@ telling-requires c κs = tt
 owing-requires : tie.Need-owing-requires Inv-loop μ-loop
 owing-requires c κs =
     let l = c .before .before .before in
-    omega (arith, ap (λ (rs : Reports). rs .count) (c .telling .ensures), call-settles (start (l .before) .pre) (made l) .room)
+    omega (arith, ap (λ (rs : Reports). rs .count) (c .telling .ensures), call-settles (start (l .before .before) .pre) (made l) .room)
 
--- who sleeps soonest was asked of the machine as it is now
+-- what happens next was asked of the machine as it is now
 returns : tie.Need-returns Inv-loop μ-loop
 returns c =
     let t = c .before in
     let h = t .before in
     let q = h .before in
     let l = q .before in
-    let m = ticked (l .before) in
-    let is = c .owing .ensures ∙ ap (λ (rs : Reports). owing m rs 0 (h .chosen .result) (q .soonest .result)) (t .telling .ensures) in
-    subst (λ (x : Reporting). Called x (start (l .before) .args .self) records.Tick) (sym is)
-    (record { answers = call-answers (start (l .before) .pre) (made l) (h .chosen .ensures) (subst (Quiet m) (sym (q .soonest .ensures)) (soonest-quiet m)); quiet' = q .soonest .ensures })
+    let m = ticked l in
+    let is = c .owing .ensures ∙ ap (λ (rs : Reports). owing m rs 0 (h .chosen .result) (q .next-event .result)) (t .telling .ensures) in
+    subst (λ (x : Reporting). Called x (start (l .before .before) .args .self) records.Tick) (sym is)
+    (record { answers = call-answers (start (l .before .before) .pre) (made l) (h .chosen .ensures) (subst (Quiet m) (sym (q .next-event .ensures)) (next-quiet m)); quiet' = q .next-event .ensures })
 
 pub tick-spec : {M : Type 1} → statement M
 tick-spec =
@@ -196,7 +206,7 @@ tick-spec =
     Inv-loop
     μ-loop
     next-requires
-    none-requires
+    expired-requires
     loop-holds
     cast-nibble-at
     nibble-at-requires
@@ -212,7 +222,8 @@ tick-spec =
     add-i
     loop-less
     loop-again
-    soonest-requires
+    moved-on-requires
+    next-event-requires
     chosen-requires
     telling-requires
     owing-requires

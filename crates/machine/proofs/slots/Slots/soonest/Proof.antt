@@ -10,9 +10,10 @@ use Rattle.model.specs.State.{Condition}
 use Rattle.model.specs.Formed.{lastWake}
 use Rattle.model.proofs.Loops.{left, begin, turn, done}
 use Rattle.lists.specs.Words.{nibble}
+use Rattle.clock.specs.View.{numberAt}
 use Rattle.machine.specs.declared.slots.Slots.{Slots}
-use Rattle.machine.specs.declared.time.Tick.{Tick}
-use Rattle.machine.specs.View.{wakeOf, conditionIn, conditionsOf}
+use Rattle.clock.specs.declared.time.Tick.{Tick}
+use Rattle.machine.specs.View.{conditionIn, conditionsOf}
 use Rattle.machine.specs.Contracts.{wakesAt, soonest}
 use Rattle.machine.proofs.Conditions.{wakes-asleep, wakes-other}
 use Rattle.machine.proofs.slots.Slots.soonest.Statement.{statement}
@@ -46,7 +47,7 @@ module _ (slots : Slots) (wakes : List Tick) (n : ℕ) where
     want = nibble (slots .wants) t
 
     abbrev wake : ℕ
-    wake = wakeOf wakes t
+    wake = numberAt wakes t
 
     turned : soonestOf (left t n) ≡ min (wakesAt (conditionIn slots wakes t)) (soonestOf (left (t + 1) n))
     turned = turn soonestOf n t h
@@ -91,7 +92,7 @@ loop-again c =
     let a = k .before .args in
     let t = k .loop .t in
     let q = k .loop .inv .1 in
-    let w = wakeOf (a .t2) t in
+    let w = numberAt (a .t2) t in
     let e = c .before .before .nibble-at .ensures in
     let number : Tick → ℕ = λ (x : Tick). x .0 in
     let h : t < a .threads = c .before .before .before .loop-test .taken in (

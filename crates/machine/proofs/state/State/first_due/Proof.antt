@@ -1,4 +1,4 @@
--- `first_due` meets its contract: in a well-formed state the report behind those given is in the array, and one of document 01's.
+-- `first_due` meets its contract: in a well-formed state the report behind those given is in the array, and one of the papers'.
 use mathlib.Core.Path.{_≡_, ap, sym, _∙_}
 use mathlib.Core.List.{_∷_, tail}
 use Prim.Native.Nat.{ℕ, _<_}
@@ -6,7 +6,7 @@ use native.Mathlib.Omega.{arith}
 use lib.ListN.{length, getD}
 use Rattle.machine.specs.declared.reports.Report.{Report}
 use Rattle.machine.specs.declared.state.State.{State}
-use Rattle.machine.specs.Lists.{reportOf, noReport}
+use Rattle.machine.specs.Lists.{reportRoom, reportOf, noReport}
 use Rattle.machine.specs.Contracts.{Owes}
 use Rattle.machine.proofs.Sized.{due-size}
 use Rattle.machine.proofs.Owing.{first-due, due-known, due-fits, owing}
@@ -14,7 +14,7 @@ use Rattle.machine.proofs.state.State.first_due.Statement.{statement}
 use Rattle.machine.proofs.state.State.first_due.Tie as tie
 
 -- the first report due is in the array
-in-array : (s : State) → Owes s → length (s .due .items) ≡ 17 → s .given < 17
+in-array : (s : State) → Owes s → length (s .due .items) ≡ reportRoom → s .given < reportRoom
 in-array s o size = let h = owing s (o .formed') (o .due') in omega (arith, h, due-fits s (o .formed') size h)
 
 mul-result : tie.Need-mul-result
