@@ -5,7 +5,6 @@ ghost use Rattle.dump.specs.Reading.{Reads};
 use crate::layout::Entry;
 use clock::time::Wait;
 use machine::record::Record;
-use machine::record::TimerCall;
 use machine::reports::Report;
 
 // The record of a kind and an operand that questions 7 and 8 let pass.
@@ -24,10 +23,10 @@ pub fn record_of(entry: Entry) -> Record
         5 => Record::Take(who),
         6 => Record::Give(who),
         7 => Record::Tick,
-        8 => Record::Timing(TimerCall::Arm(who)),
-        9 => Record::Timing(TimerCall::Start(operand)),
-        10 => Record::Timing(TimerCall::Period(operand)),
-        11 => Record::Timing(TimerCall::Cancel(who)),
+        8 => Record::Arm(who),
+        9 => Record::Start(operand),
+        10 => Record::Period(operand),
+        11 => Record::Cancel(who),
         _ => Record::Report(Report {
             kind,
             spare: 0,

@@ -138,5 +138,8 @@ pub fn formed(state: State) -> bool
         return false;
     }
     let due = state.due;
+    if due.count <= state.given {
+        return true;
+    }
     reports::in_range(due, state.given, p)
 }

@@ -1,10 +1,12 @@
 // The reports due of a lent state.
 ghost use mathlib.Core.Path.{_≡_};
+ghost use Prim.Native.Nat.{_<_};
 ghost use lib.ListN.{drop};
 ghost use Rattle.model.specs.Records.{report, allowed};
 ghost use Rattle.model.specs.Formed.{dueInRange};
 ghost use Rattle.plan.specs.View.{Fits, view};
 ghost use Rattle.machine.specs.Lists.{reportOf, owed};
+use clock::timers::TIMERS;
 use machine::reports::ROOM;
 use machine::reports::Report;
 use machine::reports::Reports;
@@ -21,7 +23,7 @@ fn is_report(entry: Report, plan: Plan) -> bool
         return true;
     }
     if kind == 21 {
-        return operand < 8;
+        return (operand as usize) < TIMERS;
     }
     if kind == 22 {
         return true;
@@ -29,16 +31,13 @@ fn is_report(entry: Report, plan: Plan) -> bool
     16 <= kind && kind <= 20 && (operand as usize) < plan.threads
 }
 
-// Whether those behind the first `given` are at most T + 9, each a report of the papers'.
+// Where some are due: whether those behind the first `given` are at most T + 9, each a report of the papers'.
 pub(crate) fn in_range(reports: Reports, given: usize, plan: Plan) -> bool
-    requires { ⌜ Fits plan ⌝ }
+    requires { ⌜ Fits plan × (given < reports .count) ⌝ }
     ensures { λ r. ⌜ r ≡ dueInRange (view plan) (drop given (owed reports)) ⌝ }
 {
     let items = reports.items;
     let n = reports.count;
-    if n <= given {
-        return true;
-    }
     let threads = plan.threads;
     if ROOM < n || threads + 9 < n - given {
         return false;

@@ -8,22 +8,23 @@ ghost use Rattle.clock.specs.View.{numberAt, armingOf, view};
 use clock::time::LAST_EXPIRY;
 use clock::time::Tick;
 use clock::timers::Arming;
+use clock::timers::TIMERS;
 use clock::timers::Timers;
 
 // Whether an arming that is in progress has come to a stage that there is, and is of one of the eight timers.
 fn arming_in_range(arming: Arming) -> bool
     ensures { λ r. ⌜ r ≡ armingInRange (armingOf arming) ⌝ }
 {
-    arming.stage == 0 || arming.stage <= 2 && arming.timer < 8
+    arming.stage == 0 || arming.stage <= 2 && (arming.timer as usize) < TIMERS
 }
 
 // Whether none of the eight expiries is above the greatest: asked at once, without an early end. A timer that is not armed has 0 there.
-fn in_time(expiries: [Tick; 8]) -> bool
+fn in_time(expiries: [Tick; TIMERS]) -> bool
     ensures { λ r. ⌜ r ≡ all (λ n. leb n lastExpiry) (map (numberAt expiries) (upTo 8)) ⌝ }
 {
     let mut pass = true;
     let mut i: usize = 0;
-    while i < 8 {
+    while i < TIMERS {
         let expiry = expiries[i];
         if LAST_EXPIRY.0 < expiry.0 {
             pass = false;

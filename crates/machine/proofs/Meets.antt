@@ -1,11 +1,13 @@
--- What the proofs of the calls share: two states that remember the same are equal, and there are as many reports as the list of them has.
-use mathlib.Core.Path.{_≡_, ap, sym, _∙_}
+-- What the proofs of the calls share: two states that remember the same are equal, there are as many reports as the list of them has, and those stored are
+-- those that the call made.
+use mathlib.Core.Path.{_≡_, ap, sym, subst, _∙_}
 use mathlib.Core.List.{List}
 use lib.ListN.{length}
 use Rattle.model.specs.State.{State}
 use Rattle.model.specs.Records as records
 use Rattle.machine.specs.declared.reports.Reports.{Reports}
-use Rattle.machine.specs.Lists.{owed}
+use Rattle.machine.specs.declared.reports.Made.{Made}
+use Rattle.machine.specs.Lists.{owed, Tells, Stores}
 use Rattle.machine.proofs.Views.{length-owed}
 
 -- two states that remember the same are equal
@@ -15,3 +17,7 @@ alike n cs q hs ws w ds ts = λ i. record { tickNumber = n i; conditions = cs i;
 -- there are as many reports as the list of them has
 pub owed-count : (rs : Reports) {l : List records.Report} → owed rs ≡ l → rs .count ≡ length l
 owed-count rs e = sym (length-owed rs) ∙ ap length e
+
+-- the reports stored are those that the call made on the way that it came
+pub told : {rs : Reports} {made way : Made} {due : List records.Report} → Stores rs made → made ≡ way → Tells way due → owed rs ≡ due
+told {due = due} s e t = s .stored due (subst (λ (x : Made). Tells x due) (sym e) t)

@@ -1,7 +1,8 @@
 -- The reports of the model that the code's array stands for. Of the array only the first `count` entries are in use.
+use mathlib.Core.Path.{_≡_}
 use mathlib.Core.Bool.{cond}
-use mathlib.Core.List.{List, map}
-use Prim.Native.Nat.{ℕ}
+use mathlib.Core.List.{List, [], _∷_, map}
+use Prim.Native.Nat.{ℕ, _≤_}
 use lib.Dec.{eqb}
 use lib.ListN.{getD}
 use Rattle.model.specs.Searches.{upTo}
@@ -9,6 +10,7 @@ use Rattle.model.specs.Records.{Ready, Switch, Won, Lost, Yield, Expire, Late, 
 use Rattle.model.specs.Records as records
 use Rattle.machine.specs.declared.reports.Report.{Report}
 use Rattle.machine.specs.declared.reports.Reports.{Reports}
+use Rattle.machine.specs.declared.reports.Made.{Made}
 pub use Rattle.lists.specs.Lists.{numbered, threadOf}
 
 -- room for the reports of sixteen threads and eight timers, and a Switch
@@ -37,3 +39,12 @@ listed at n = map (λ i. reportOf (at i)) (upTo n)
 
 abbrev pub owed : Reports → List records.Report
 owed rs = listed (λ i. getD (rs .items) i noReport) (rs .count)
+
+-- what a call other than Tick makes due: these reports, at most two
+pub record Tells (made : Made) (due : List records.Report) : Type 0 where
+  pub few : made .count ≤ 2
+  pub listed' : listed (λ i. getD (made .first ∷ made .second ∷ []) i noReport) (made .count) ≡ due
+
+-- the reports of the array are those that the call made due
+pub record Stores (rs : Reports) (made : Made) : Type 0 where
+  pub stored : (due : List records.Report) → Tells made due → owed rs ≡ due

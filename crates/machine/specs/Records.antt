@@ -4,17 +4,9 @@ use mathlib.Core.Logic.{_⊎_}
 use Prim.Native.Nat.{ℕ}
 use Rattle.model.specs.Records as records
 use Rattle.machine.specs.declared.record.Record.{Record}
-use Rattle.machine.specs.declared.record.Record.the-variants.{Create, Delay, Relinquish, End, Take, Give, Tick, Timing, Report}
-use Rattle.machine.specs.declared.record.TimerCall.{TimerCall}
-use Rattle.machine.specs.declared.record.TimerCall.the-variants.{Arm, Start, Period, Cancel}
+use Rattle.machine.specs.declared.record.Record.the-variants.{Create, Delay, Relinquish, End, Take, Give, Tick, Arm, Start, Period, Cancel, Report}
 use Rattle.machine.specs.Lists.{reportOf}
 use Rattle.machine.specs.Contracts.{IsReport}
-
-abbrev pub timerCallOf : TimerCall → records.TimerCall
-timerCallOf (Arm i) = records.Arm i
-timerCallOf (Start n) = records.Start n
-timerCallOf (Period n) = records.Period n
-timerCallOf (Cancel i) = records.Cancel i
 
 abbrev pub recordOf : Record → records.Record
 recordOf (Create t) = records.call (records.Create t)
@@ -24,7 +16,10 @@ recordOf End = records.call records.End
 recordOf (Take s) = records.call (records.Take s)
 recordOf (Give s) = records.call (records.Give s)
 recordOf Tick = records.call records.Tick
-recordOf (Timing k) = records.call (records.Timing (timerCallOf k))
+recordOf (Arm i) = records.call (records.Timing (records.Arm i))
+recordOf (Start n) = records.call (records.Timing (records.Start n))
+recordOf (Period n) = records.call (records.Timing (records.Period n))
+recordOf (Cancel i) = records.call (records.Timing (records.Cancel i))
 recordOf (Report r) = records.report (reportOf r)
 
 -- question 7, of a record that is a report
@@ -36,7 +31,10 @@ KindAllowed End = Unit {0}
 KindAllowed (Take s) = Unit {0}
 KindAllowed (Give s) = Unit {0}
 KindAllowed Tick = Unit {0}
-KindAllowed (Timing k) = Unit {0}
+KindAllowed (Arm i) = Unit {0}
+KindAllowed (Start n) = Unit {0}
+KindAllowed (Period n) = Unit {0}
+KindAllowed (Cancel i) = Unit {0}
 KindAllowed (Report r) = IsReport r
 
 -- a record by its kind and operand

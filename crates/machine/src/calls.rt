@@ -4,6 +4,7 @@ ghost use Rattle.model.specs.Records as records;
 ghost use Rattle.machine.specs.Calls.{Calls, Called};
 use crate::quiet::next_event;
 use crate::reporting::Reporting;
+use crate::reports::Made;
 use crate::reports::Reports;
 use crate::rules;
 use crate::slots;
@@ -19,8 +20,8 @@ impl Reporting {
         requires { ⌜ Calls self (now ceilings) (records.Create thread) ⌝ }
         ensures { λ r. ⌜ Called r self (records.Create thread) ⌝ }
     {
-        let mut c = self.cleared();
         let mut m = self.machine;
+        let mut made = Made::none();
         let s = m.slots;
         let rule = rules::create_rule(s, thread);
         if rule == 0 {
@@ -29,8 +30,9 @@ impl Reporting {
             let q = m.queue;
             let q2 = q.push(thread);
             m.queue = q2;
-            c = c.one(16, thread);
+            made = Made::one(16, thread);
         }
+        let c = self.making(made);
         let who = m.chosen(ceilings);
         c.owing(m, rule, who, self.quiet)
     }
@@ -40,20 +42,20 @@ impl Reporting {
         requires { ⌜ Calls self (now ceilings) records.Tick ⌝ }
         ensures { λ r. ⌜ Called r self records.Tick ⌝ }
     {
-        let mut m = self.machine;
-        let p = m.plan;
+        let old = self.machine;
+        let p = old.plan;
         let n = p.threads;
-        let now = m.tick;
+        let now = old.tick;
         let number = now.next();
-        let old = m.slots;
-        let wakes = m.wakes;
-        let mut slots = m.slots;
-        let mut queue = m.queue;
-        let timers = m.timers;
+        let asleep = old.slots;
+        let wakes = old.wakes;
+        let mut slots = old.slots;
+        let mut queue = old.queue;
+        let timers = old.timers;
         let mut rs = Reports::expired(timers, number);
         let mut i: usize = 0;
         while i < n {
-            let state = nibble_at(old.states, i as u8);
+            let state = nibble_at(asleep.states, i as u8);
             if slots::sleeps_until(state, wakes[i], number) {
                 slots = slots.placed(i as u8, 1);
                 queue = queue.push(i as u8);
@@ -61,12 +63,13 @@ impl Reporting {
             }
             i += 1;
         }
+        let later = timers.moved_on(number);
+        let quiet = next_event(n, slots, wakes, later);
+        let mut m = self.machine;
         m.tick = number;
         m.slots = slots;
         m.queue = queue;
-        let later = timers.moved_on(number);
         m.timers = later;
-        let quiet = next_event(n, slots, wakes, later);
         let who = m.chosen(ceilings);
         self.telling(rs).owing(m, 0, who, quiet)
     }
@@ -94,8 +97,9 @@ impl Reporting {
             let q2 = q.without(caller);
             m.queue = q2;
         }
+        let c = self.making(Made::none());
         let who = m.chosen(ceilings);
-        self.cleared().owing(m, rule, who, Tick(0))
+        c.owing(m, rule, who, Tick(0))
     }
 
     // Relinquish: see model, Calls.relinquish.
@@ -103,8 +107,8 @@ impl Reporting {
         requires { ⌜ Calls self (now ceilings) records.Relinquish ⌝ }
         ensures { λ r. ⌜ Called r self records.Relinquish ⌝ }
     {
-        let mut c = self.cleared();
         let mut m = self.machine;
+        let mut made = Made::none();
         let caller = self.chosen;
         let rule = rules::run_rule(caller);
         if rule == 0 {
@@ -117,9 +121,10 @@ impl Reporting {
                 let q2 = q.without(caller);
                 let q3 = q2.push(caller);
                 m.queue = q3;
-                c = c.one(20, caller);
+                made = Made::one(20, caller);
             }
         }
+        let c = self.making(made);
         let who = m.chosen(ceilings);
         c.owing(m, rule, who, self.quiet)
     }
@@ -141,8 +146,9 @@ impl Reporting {
             let q2 = q.without(caller);
             m.queue = q2;
         }
+        let c = self.making(Made::none());
         let who = m.chosen(ceilings);
-        self.cleared().owing(m, rule, who, self.quiet)
+        c.owing(m, rule, who, self.quiet)
     }
 
     // Take: see model, Calls.take.
@@ -150,8 +156,8 @@ impl Reporting {
         requires { ⌜ Calls self (now ceilings) (records.Take section) ⌝ }
         ensures { λ r. ⌜ Called r self (records.Take section) ⌝ }
     {
-        let mut c = self.cleared();
         let mut m = self.machine;
+        let mut made = Made::none();
         let caller = self.chosen;
         let p = m.plan;
         let bases = p.bases;
@@ -163,7 +169,7 @@ impl Reporting {
             if h.clear(ceilings, caller, b) {
                 let h2 = h.push(section, caller);
                 m.holds = h2;
-                c = c.one(18, caller);
+                made = Made::one(18, caller);
             } else {
                 let q = m.queue;
                 let q2 = q.without(caller);
@@ -174,9 +180,10 @@ impl Reporting {
                 let w = m.waits;
                 let w2 = w.push(caller);
                 m.waits = w2;
-                c = c.one(19, caller);
+                made = Made::one(19, caller);
             }
         }
+        let c = self.making(made);
         let who = m.chosen(ceilings);
         c.owing(m, rule, who, self.quiet)
     }
@@ -186,8 +193,8 @@ impl Reporting {
         requires { ⌜ Calls self (now ceilings) (records.Give section) ⌝ }
         ensures { λ r. ⌜ Called r self (records.Give section) ⌝ }
     {
-        let mut c = self.cleared();
         let mut m = self.machine;
+        let mut made = Made::none();
         let caller = self.chosen;
         let p = m.plan;
         let bases = p.bases;
@@ -208,13 +215,13 @@ impl Reporting {
                 let q = m.queue;
                 let q2 = q.push(t);
                 m.queue = q2;
-                c = c.one(18, t);
-                c = c.two(16, t);
+                made = Made::won(t);
             } else if t != 255 {
-                c = c.one(19, t);
+                made = Made::one(19, t);
             }
             m.holds = h2;
         }
+        let c = self.making(made);
         let who = m.chosen(ceilings);
         c.owing(m, rule, who, self.quiet)
     }

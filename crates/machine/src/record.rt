@@ -2,14 +2,6 @@
 use crate::reports::Report;
 use clock::time::Wait;
 
-// A call that sets timers, with its operand.
-pub enum TimerCall {
-    Arm(u8),
-    Start(u16),
-    Period(u16),
-    Cancel(u8),
-}
-
 // A call with its operand, or a report.
 pub enum Record {
     Create(u8),
@@ -19,6 +11,9 @@ pub enum Record {
     Take(u8),
     Give(u8),
     Tick,
-    Timing(TimerCall),
+    Arm(u8),
+    Start(u16),
+    Period(u16),
+    Cancel(u8),
     Report(Report),
 }

@@ -1,16 +1,15 @@
 // A machine with the reports of its latest call. The Switch stands apart from the array: there is at most one, and it is last, so that of every
 // call but a Tick each report has a place that is known when the code is compiled.
 ghost use mathlib.Core.Path.{_≡_};
-ghost use mathlib.Core.List.{[], _∷_, _++_};
-ghost use Prim.Native.Nat.{_<_, min};
+ghost use Prim.Native.Nat.{_<_};
 ghost use lib.Dec.{ltb};
 ghost use Rattle.model.specs.Priorities.{chosen};
-ghost use Rattle.model.specs.Records.{Late};
 ghost use Rattle.lists.specs.Lists.{numbered};
-ghost use Rattle.machine.specs.Lists.{reportRoom, reportOf, owed};
+ghost use Rattle.machine.specs.Lists.{reportRoom, Stores};
 ghost use Rattle.machine.specs.View.{planOf, idle, reportsIn};
 ghost use Rattle.machine.specs.Contracts.{Starts, Chooses, owing};
 use crate::Machine;
+use crate::reports::Made;
 use crate::reports::ROOM;
 use crate::reports::Report;
 use crate::reports::Reports;
@@ -79,56 +78,16 @@ impl Reporting {
         self.given < self.due
     }
 
-    // With no report.
-    pub(crate) fn cleared(self) -> Reporting
-        ensures { λ r. ⌜ owed (reportsIn r) ≡ [] ⌝ }
+    // With the reports of a call other than Tick. They are stored whatever they are: a store that depends on a test copies the array.
+    pub(crate) fn making(self, made: Made) -> Reporting
+        ensures { λ r. ⌜ Stores (reportsIn r) made ⌝ }
     {
         let mut c = self;
-        c.count = 0;
-        c
-    }
-
-    // With one report.
-    pub(crate) fn one(self, kind: u8, who: u8) -> Reporting
-        ensures { λ r. ⌜ owed (reportsIn r) ≡ reportOf (record { kind = kind; spare = 0; operand = who }) ∷ [] ⌝ }
-    {
-        let mut c = self;
-        c.reports[0] = Report {
-            kind,
-            spare: 0,
-            operand: who as u16,
-        };
-        c.count = 1;
-        c
-    }
-
-    // With a second report behind the first.
-    pub(crate) fn two(self, kind: u8, who: u8) -> Reporting
-        requires { ⌜ self .count ≡ 1 ⌝ }
-        ensures { λ r. ⌜ owed (reportsIn r) ≡ owed (reportsIn self) ++ (reportOf (record { kind = kind; spare = 0; operand = who }) ∷ []) ⌝ }
-    {
-        let mut c = self;
-        c.reports[1] = Report {
-            kind,
-            spare: 0,
-            operand: who as u16,
-        };
-        c.count = 2;
-        c
-    }
-
-    // With a Late. A count above 65535 is written 65535.
-    pub(crate) fn late(self, count: u32) -> Reporting
-        ensures { λ r. ⌜ owed (reportsIn r) ≡ Late (min count 65535) ∷ [] ⌝ }
-    {
-        let mut c = self;
-        let operand = if count < 65535 { count as u16 } else { 65535 };
-        c.reports[0] = Report {
-            kind: 22,
-            spare: 0,
-            operand,
-        };
-        c.count = 1;
+        let first = made.first;
+        let second = made.second;
+        c.reports[0] = first;
+        c.reports[1] = second;
+        c.count = made.count;
         c
     }
 

@@ -1,11 +1,11 @@
 // The reports that a call makes due, in order: at most one for each thread and each timer, and a Switch.
 ghost use mathlib.Core.Path.{_≡_};
 ghost use mathlib.Core.List.{[], _∷_, _++_, map};
-ghost use Prim.Native.Nat.{_<_};
-ghost use Rattle.model.specs.Records.{Expire};
+ghost use Prim.Native.Nat.{_<_, min};
+ghost use Rattle.model.specs.Records.{Ready, Won, Expire, Late};
 ghost use Rattle.model.specs.Timers as model;
 ghost use Rattle.clock.specs.View as timing;
-ghost use Rattle.machine.specs.Lists.{reportRoom, reportOf, switchTo, owed};
+ghost use Rattle.machine.specs.Lists.{reportRoom, reportOf, switchTo, owed, Tells};
 use clock::time::Tick;
 use clock::timers::TIMERS;
 use clock::timers::Timers;
@@ -28,7 +28,25 @@ pub struct Reports {
     pub count: usize,
 }
 
+// What a call other than Tick makes due before its Switch: the first `count` of two reports.
+pub struct Made {
+    pub first: Report,
+    pub second: Report,
+    pub count: usize,
+}
+
 impl Report {
+    // The report of a thread or timer.
+    fn of(kind: u8, who: u8) -> Report
+        ensures { λ r. ⌜ r ≡ record { kind = kind; spare = 0; operand = who } ⌝ }
+    {
+        Report {
+            kind,
+            spare: 0,
+            operand: who as u16,
+        }
+    }
+
     // The Switch to a thread, 255 for nobody.
     pub(crate) fn switch(who: u8) -> Report
         ensures { λ r. ⌜ r ≡ switchTo who ⌝ }
@@ -42,15 +60,60 @@ impl Report {
     }
 }
 
+impl Made {
+    pub(crate) fn none() -> Made
+        ensures { λ r. ⌜ Tells r [] ⌝ }
+    {
+        Made {
+            first: Report::of(0, 0),
+            second: Report::of(0, 0),
+            count: 0,
+        }
+    }
+
+    pub(crate) fn one(kind: u8, who: u8) -> Made
+        ensures { λ r. ⌜ Tells r (reportOf (record { kind = kind; spare = 0; operand = who }) ∷ []) ⌝ }
+    {
+        Made {
+            first: Report::of(kind, who),
+            second: Report::of(0, 0),
+            count: 1,
+        }
+    }
+
+    // An heir has won, and is ready.
+    pub(crate) fn won(heir: u8) -> Made
+        ensures { λ r. ⌜ Tells r (Won heir ∷ Ready heir ∷ []) ⌝ }
+    {
+        Made {
+            first: Report::of(18, heir),
+            second: Report::of(16, heir),
+            count: 2,
+        }
+    }
+
+    // A Late. A count above 65535 is written 65535.
+    pub(crate) fn late(count: u32) -> Made
+        ensures { λ r. ⌜ Tells r (Late (min count 65535) ∷ []) ⌝ }
+    {
+        let operand = if count < 65535 { count as u16 } else { 65535 };
+        Made {
+            first: Report {
+                kind: 22,
+                spare: 0,
+                operand,
+            },
+            second: Report::of(0, 0),
+            count: 1,
+        }
+    }
+}
+
 impl Reports {
     pub(crate) fn none() -> Reports
         ensures { λ r. ⌜ owed r ≡ [] ⌝ }
     {
-        let z = Report {
-            kind: 0,
-            spare: 0,
-            operand: 0,
-        };
+        let z = Report::of(0, 0);
         Reports {
             items: [z; ROOM],
             count: 0,
@@ -64,11 +127,8 @@ impl Reports {
     {
         let mut rs = self;
         let n = rs.count;
-        rs.items[n] = Report {
-            kind,
-            spare: 0,
-            operand: who as u16,
-        };
+        let r = Report::of(kind, who);
+        rs.items[n] = r;
         rs.count = n + 1;
         rs
     }

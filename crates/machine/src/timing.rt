@@ -2,30 +2,14 @@
 // stays; what happens next is no longer known.
 ghost use Rattle.model.specs.Records as records;
 ghost use Rattle.machine.specs.Calls.{Sets, Called};
-ghost use Rattle.machine.specs.Records.{timerCallOf};
-use crate::record::TimerCall;
 use crate::reporting::Reporting;
+use crate::reports::Made;
 use crate::rules;
 use clock::time::Tick;
 
 impl Reporting {
-    // One of these calls.
-    pub fn timing(self, call: TimerCall) -> Reporting
-        requires { ⌜ Sets self (timerCallOf call) ⌝ }
-        ensures { λ r. ⌜ Called r self (records.Timing (timerCallOf call)) ⌝ }
-    {
-        let mut c = self;
-        match call {
-            TimerCall::Arm(timer) => c = c.arm(timer),
-            TimerCall::Start(number) => c = c.start(number),
-            TimerCall::Period(ticks) => c = c.period(ticks),
-            TimerCall::Cancel(timer) => c = c.cancel(timer),
-        }
-        c
-    }
-
     // Arm: see model, Timers.setTimer.
-    fn arm(self, timer: u8) -> Reporting
+    pub fn arm(self, timer: u8) -> Reporting
         requires { ⌜ Sets self (records.Arm timer) ⌝ }
         ensures { λ r. ⌜ Called r self (records.Timing (records.Arm timer)) ⌝ }
     {
@@ -35,11 +19,11 @@ impl Reporting {
         let t = m.timers;
         let t2 = t.begun(rule == 0, timer);
         m.timers = t2;
-        self.cleared().owing(m, rule, caller, Tick(0))
+        self.making(Made::none()).owing(m, rule, caller, Tick(0))
     }
 
     // Start.
-    fn start(self, number: u16) -> Reporting
+    pub fn start(self, number: u16) -> Reporting
         requires { ⌜ Sets self (records.Start number) ⌝ }
         ensures { λ r. ⌜ Called r self (records.Timing (records.Start number)) ⌝ }
     {
@@ -49,30 +33,30 @@ impl Reporting {
         let t = m.timers;
         let t2 = t.started(rule == 0, number);
         m.timers = t2;
-        self.cleared().owing(m, rule, caller, Tick(0))
+        self.making(Made::none()).owing(m, rule, caller, Tick(0))
     }
 
     // Period: Late is due, with the count of expiries lost.
-    fn period(self, ticks: u16) -> Reporting
+    pub fn period(self, ticks: u16) -> Reporting
         requires { ⌜ Sets self (records.Period ticks) ⌝ }
         ensures { λ r. ⌜ Called r self (records.Timing (records.Period ticks)) ⌝ }
     {
-        let mut c = self.cleared();
         let mut m = self.machine;
+        let mut made = Made::none();
         let caller = self.chosen;
         let rule = rules::run_rule(caller);
         let now = m.tick;
         let t = m.timers;
         if rule == 0 {
-            c = c.late(t.lost(now, ticks));
+            made = Made::late(t.lost(now, ticks));
         }
         let t2 = t.armed(rule == 0, now, ticks);
         m.timers = t2;
-        c.owing(m, rule, caller, Tick(0))
+        self.making(made).owing(m, rule, caller, Tick(0))
     }
 
     // Cancel.
-    fn cancel(self, timer: u8) -> Reporting
+    pub fn cancel(self, timer: u8) -> Reporting
         requires { ⌜ Sets self (records.Cancel timer) ⌝ }
         ensures { λ r. ⌜ Called r self (records.Timing (records.Cancel timer)) ⌝ }
     {
@@ -82,6 +66,6 @@ impl Reporting {
         let rule = rules::cancel_rule(t, caller, timer);
         let t2 = t.cancelled(rule == 0, timer);
         m.timers = t2;
-        self.cleared().owing(m, rule, caller, Tick(0))
+        self.making(Made::none()).owing(m, rule, caller, Tick(0))
     }
 }

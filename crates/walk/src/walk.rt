@@ -38,7 +38,10 @@ pub fn walk(s: State, ceilings: &[u8; 16], who: u8, bytes: &[u8], from: usize, t
                 Record::Take(n) => c = c.take(ceilings, n),
                 Record::Give(n) => c = c.give(ceilings, n),
                 Record::Tick => c = c.tick(ceilings),
-                Record::Timing(k) => c = c.timing(k),
+                Record::Arm(t) => c = c.arm(t),
+                Record::Start(n) => c = c.start(n),
+                Record::Period(n) => c = c.period(n),
+                Record::Cancel(t) => c = c.cancel(t),
                 Record::Report(_) => c = c.unasked(),
             }
         }

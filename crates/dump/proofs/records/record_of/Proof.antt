@@ -8,8 +8,7 @@ use borrow.Author.Needs.{needs}
 use lib.Dec.{T, ltb→lt, lt→ltb}
 use Rattle.model.specs.Records as model
 use Rattle.model.proofs.Tests.{split, is-false}
-use Rattle.machine.specs.declared.record.Record.the-variants.{Create, Take, Give, Timing}
-use Rattle.machine.specs.declared.record.TimerCall.the-variants.{Arm, Cancel}
+use Rattle.machine.specs.declared.record.Record.the-variants.{Create, Take, Give, Arm, Cancel}
 use Rattle.dump.specs.Questions.{isCall, operandFits}
 use Rattle.dump.specs.Reading.{Reads}
 use Rattle.dump.proofs.Codec.{fits-kind, each-call}
@@ -28,10 +27,10 @@ module _ (k n : ℕ) (t : T (operandFits 16 16 k n)) where
   gives : k ≡ 6 → Reads (Give (n % 256)) k n
   gives e = rw e (record { same = ap (λ i. model.call (model.Give i)) (low n (rw e at t)); kind' = tt })
 
-  arms : k ≡ 8 → Reads (Timing (Arm (n % 256))) k n
+  arms : k ≡ 8 → Reads (Arm (n % 256)) k n
   arms e = rw e (record { same = ap (λ i. model.call (model.Timing (model.Arm i))) (low n (lt→ltb n 16 (omega (arith, ltb→lt n model.timerCount (rw e at t))))); kind' = tt })
 
-  cancels : k ≡ 11 → Reads (Timing (Cancel (n % 256))) k n
+  cancels : k ≡ 11 → Reads (Cancel (n % 256)) k n
   cancels e = rw e (record { same = ap (λ i. model.call (model.Timing (model.Cancel i))) (low n (lt→ltb n 16 (omega (arith, ltb→lt n model.timerCount (rw e at t))))); kind' = tt })
 
 cast-who : tie.Need-cast-who

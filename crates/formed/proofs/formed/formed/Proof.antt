@@ -1,9 +1,14 @@
 -- `formed` meets its contract: the first question that has the answer No ends it, and the last one decides.
+use mathlib.Core.Path.{_≡_}
+use mathlib.Core.Bool.{Bool}
 use borrow.Author.Needs.{needs}
 use lib.ListN.{drop}
+use Rattle.model.specs.Formed.{dueInRange, formed}
 use Rattle.machine.specs.Lists.{owed}
+use Rattle.machine.specs.View.{planOf, view}
 use Rattle.formed.specs.Contracts.{Counted}
 use Rattle.formed.proofs.Outside.{was-no, was-yes, counts-fit, refused-plan, refused-counts, refused-numbers, refused-timers, refused-holds, refused-threads, due-decides}
+use Rattle.formed.proofs.Reported.{none-due}
 use Rattle.formed.proofs.formed.formed.Statement.{statement}
 use Rattle.formed.proofs.formed.formed.Tie as tie
 
@@ -69,24 +74,36 @@ returns-6 c =
     let s = k .before .before .before .before .before .before .before .before .before .before .before .before .before .before .before .before .before .before .args .state in
     refused-holds (s .machine) (drop (s .given) (owed (s .due))) (was-no (k .once .ensures) (c .if6 .taken))
 
-in-range-requires-2 : tie.Need-in-range-requires-2
-in-range-requires-2 c κs = fits (c .before .before .before .before .before .before .before .before .before .before .before .before .before .before) .fits
+abbrev start : tie.Else6 → tie.Start
+start o = o .before .before .before .before .before .before .before .before .before .before .before .before .before .before .before .before .before .before .before
 
-returns-7 : tie.Need-returns-7
-returns-7 c =
-    let o = c .before .before in
+-- behind the other questions what is due decides
+decides : (o : tie.Else6) {r : Bool} → (let s = start o .args .state in r ≡ dueInRange (planOf (s .machine)) (drop (s .given) (owed (s .due))) → r ≡ formed (planOf (s .machine)) (view s))
+decides o e =
     let i = o .before .before .before in
     let n = i .before .before .before in
     let t = n .before .before in
     let p = t .before .before .before .before .before .before .before in
-    let s = p .before .before .before .before .args .state in
+    let s = start o .args .state in
     due-decides (s .machine) (drop (s .given) (owed (s .due)))
     (was-yes (p .before .passes .ensures) (p .if1 .left))
     (was-yes (n .before .numbers-in-range .ensures) (n .if4 .left))
     (was-yes (i .before .in-range .ensures) (i .if5 .left))
     (was-yes (o .before .once .ensures) (o .if6 .left))
     (was-yes (t .before .stand-once .ensures) (t .if3 .left))
-    (c .in-range2 .ensures)
+    e
+
+returns-7 : tie.Need-returns-7
+returns-7 c =
+    let o = c .before .before .before .before in
+    let s = start o .args .state in
+    decides o (none-due (s .machine .plan) (s .due) (s .given) (c .if7 .taken))
+
+in-range-requires-2 : tie.Need-in-range-requires-2
+in-range-requires-2 c κs = (fits (c .before .before .before .before .before .before .before .before .before .before .before .before .before .before .before .before .before) .fits, c .if7 .left)
+
+returns-8 : tie.Need-returns-8
+returns-8 c = decides (c .before .before .before .before .before) (c .in-range2 .ensures)
 
 pub formed-spec : {M : Type 1} → statement M
 formed-spec =
@@ -104,5 +121,6 @@ formed-spec =
     returns-5
     once-requires
     returns-6
+    returns-7
     in-range-requires-2
-    returns-7)
+    returns-8)

@@ -19,14 +19,17 @@ returns c =
     let a = c .before .before .args in
     to-nobody (a .plan) (a .entry) (c .before .if1 .taken) (eqb-true (a .entry .operand) nobody (c .if2 .taken))
 
+cast-result : tie.Need-cast-result
+cast-result c = search needs
+
 returns-2 : tie.Need-returns-2
 returns-2 c = let a = c .before .before .args in of-timer (a .plan) (a .entry) (c .if3 .taken)
 
 returns-3 : tie.Need-returns-3
 returns-3 c = let a = c .before .before .before .args in of-count (a .plan) (a .entry) (omega arith) (c .if4 .taken)
 
-cast-result : tie.Need-cast-result
-cast-result c = search needs
+cast-result-2 : tie.Need-cast-result-2
+cast-result-2 c = search needs
 
 -- whether the kind is one that names a thread
 kinds : (c : tie.Joined5) → let a = c .before .before .before .before .args in c .if5 .if6 ≡ leb 16 (a .entry .kind) && leb (a .entry .kind) 20
@@ -62,4 +65,4 @@ returns-5 c =
     c .if6 .left ∙ ap (λ b. b && ltb (a .entry .operand) (a .plan .threads)) (sym (c .if6 .left)) ∙ by-thread k
 
 pub is-report-spec : {M : Type 1} → statement M
-is-report-spec = tie.close (tie.spec returns returns-2 returns-3 cast-result returns-4 returns-5)
+is-report-spec = tie.close (tie.spec returns cast-result returns-2 returns-3 cast-result-2 returns-4 returns-5)

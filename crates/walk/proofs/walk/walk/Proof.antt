@@ -176,15 +176,34 @@ enum-told-3 c = search needs
 tick-requires : tie.Need-tick-requires Inv-loop μ-loop
 tick-requires c κs = let o = c .before .before in calls (undue-at o) (is-read o (ap machine.recordOf (c .enum-told3 .given .1)))
 
-enum-known-k : tie.Need-enum-known-k Inv-loop μ-loop
-enum-known-k c = search needs
+-- the calls that set timers ask for the ceilings of their plan
+
+enum-known-t-2 : tie.Need-enum-known-t-2 Inv-loop μ-loop
+enum-known-t-2 c = search needs
+
+arm-requires : tie.Need-arm-requires Inv-loop μ-loop
+arm-requires c κs = let o = c .before .before .before in plan-ceilings (calls (undue-at o) (is-read o (ap machine.recordOf (c .before .t2 .given .1))))
+
+enum-known-n-3 : tie.Need-enum-known-n-3 Inv-loop μ-loop
+enum-known-n-3 c = search needs
+
+start-requires : tie.Need-start-requires Inv-loop μ-loop
+start-requires c κs = let o = c .before .before .before in plan-ceilings (calls (undue-at o) (is-read o (ap machine.recordOf (c .before .n3 .given .1))))
+
+enum-known-n-4 : tie.Need-enum-known-n-4 Inv-loop μ-loop
+enum-known-n-4 c = search needs
+
+period-requires : tie.Need-period-requires Inv-loop μ-loop
+period-requires c κs = let o = c .before .before .before in plan-ceilings (calls (undue-at o) (is-read o (ap machine.recordOf (c .before .n4 .given .1))))
+
+enum-known-t-3 : tie.Need-enum-known-t-3 Inv-loop μ-loop
+enum-known-t-3 c = search needs
+
+cancel-requires : tie.Need-cancel-requires Inv-loop μ-loop
+cancel-requires c κs = let o = c .before .before .before in plan-ceilings (calls (undue-at o) (is-read o (ap machine.recordOf (c .before .t3 .given .1))))
 
 enum-told-4 : tie.Need-enum-told-4 Inv-loop μ-loop
 enum-told-4 c = search needs
-
--- its ceilings are those of its plan
-timing-requires : tie.Need-timing-requires Inv-loop μ-loop
-timing-requires c κs = let o = c .before .before .before in let a = calls (undue-at o) (is-read o (ap machine.recordOf (c .before .k .given .1))) in plan-ceilings a
 
 unasked-requires : tie.Need-unasked-requires Inv-loop μ-loop
 unasked-requires c κs = tt
@@ -221,9 +240,12 @@ answered j =
     (⊎-elim (λ w. made (record { before = record { before = record { before = record { before = o; if1 = w .0 }; struct-known = w .1 }; if2 = w .2 }; record-of = w .3 }) (ap machine.recordOf (w .5 .given .1)) (w .8) (w .7 .ensures))
     (⊎-elim (λ w. made (record { before = record { before = record { before = record { before = o; if1 = w .0 }; struct-known = w .1 }; if2 = w .2 }; record-of = w .3 }) (ap machine.recordOf (w .5 .given .1)) (w .7) (w .6 .ensures))
     (⊎-elim (λ w. made (record { before = record { before = record { before = record { before = o; if1 = w .0 }; struct-known = w .1 }; if2 = w .2 }; record-of = w .3 }) (ap machine.recordOf (w .5 .given .1)) (w .8) (w .7 .ensures))
+    (⊎-elim (λ w. made (record { before = record { before = record { before = record { before = o; if1 = w .0 }; struct-known = w .1 }; if2 = w .2 }; record-of = w .3 }) (ap machine.recordOf (w .5 .given .1)) (w .8) (w .7 .ensures))
+    (⊎-elim (λ w. made (record { before = record { before = record { before = record { before = o; if1 = w .0 }; struct-known = w .1 }; if2 = w .2 }; record-of = w .3 }) (ap machine.recordOf (w .5 .given .1)) (w .8) (w .7 .ensures))
+    (⊎-elim (λ w. made (record { before = record { before = record { before = record { before = o; if1 = w .0 }; struct-known = w .1 }; if2 = w .2 }; record-of = w .3 }) (ap machine.recordOf (w .5 .given .1)) (w .8) (w .7 .ensures))
     (λ w.
     let r : tie.After-record-of Inv-loop μ-loop = record { before = record { before = record { before = record { before = o; if1 = w .0 }; struct-known = w .1 }; if2 = w .2 }; record-of = w .3 } in
-    is (w .7 ∙ w .6 .ensures) (let u = unheard (undue-at r) in unasked-answers (asks e) (u .1) (u .0) (reportOf (w .5 .given .0 .0)) (is-read r (ap machine.recordOf (w .5 .given .1))))))))))))))
+    is (w .7 ∙ w .6 .ensures) (let u = unheard (undue-at r) in unasked-answers (asks e) (u .1) (u .0) (reportOf (w .5 .given .0 .0)) (is-read r (ap machine.recordOf (w .5 .given .1)))))))))))))))))
     (j .if1 .came)
 
 add-i : tie.Need-add-i Inv-loop μ-loop
@@ -294,8 +316,14 @@ walk-spec =
     give-requires
     enum-told-3
     tick-requires
-    enum-known-k
-    timing-requires
+    enum-known-t-2
+    arm-requires
+    enum-known-n-3
+    start-requires
+    enum-known-n-4
+    period-requires
+    enum-known-t-3
+    cancel-requires
     enum-told-4
     unasked-requires
     add-i

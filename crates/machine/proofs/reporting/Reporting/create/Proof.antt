@@ -14,7 +14,7 @@ use Rattle.machine.proofs.Asking.{create-rule, creates}
 use Rattle.machine.proofs.Facts.{facts}
 use Rattle.machine.proofs.Room.{create-room}
 use Rattle.machine.proofs.Views.{placed-seen}
-use Rattle.machine.proofs.Meets.{alike}
+use Rattle.machine.proofs.Meets.{alike, told}
 use Rattle.machine.proofs.Outcomes.{create-asked, call-settles, quiet-answers}
 use Rattle.machine.proofs.reporting.Reporting.create.Statement.{statement}
 use Rattle.machine.proofs.reporting.Reporting.create.Tie as tie
@@ -27,8 +27,8 @@ module _ {m : Machine} {t : ℕ} (a : CreateAsked m t) where
   admitted : {rule : ℕ} → rule ≡ createRule (m .slots) t → rule ≡ 0 → Creates m t
   admitted e z = creates a (sym (create-rule a) ∙ sym e ∙ z)
 
-cleared-requires : tie.Need-cleared-requires
-cleared-requires c κs = tt
+none-requires : tie.Need-none-requires
+none-requires c κs = tt
 
 create-rule-requires : tie.Need-create-rule-requires
 create-rule-requires c κs = thread-fits (create-asked (c .before .before .before .pre))
@@ -49,19 +49,23 @@ one-requires c κs = tt
 abbrev start : tie.Joined1 → tie.Start
 start c = c .before .before .before .before .before
 
+making-requires : tie.Need-making-requires
+making-requires c κs = tt
+
 -- what is left before the Switch: the thread was dormant, or the rule is broken. Last in each way stand the machine and the reports.
-made : (c : tie.Joined1) → Makes (c .if1 .m) (reportsIn (c .if1 .c)) (c .before .create-rule .result) (start c .args .self .machine) (records.Create (start c .args .thread))
+made : (c : tie.After-making)
+    → (let j = c .before in Makes (j .if1 .m) (reportsIn (c .making .result)) (j .before .create-rule .result) (start j .args .self .machine) (records.Create (start j .args .thread)))
 unfolding create
 made c =
-    let k = c .before in
-    let s = start c in
+    let j = c .before in
+    let k = j .before in
+    let s = start j in
     let m = s .args .self .machine in
     let a = create-asked (s .pre) in
     let e = k .create-rule .ensures ∙ create-rule a in
-    let none' = k .before .before .before .cleared .ensures in
     ⊎-elim
     (λ w.
-    admits e refl (w .0 .taken) (w .6) (ap reportsIn (w .5))
+    admits e refl (w .0 .taken) (w .5) refl
     (record {
       plan' = refl;
       seen =
@@ -69,23 +73,23 @@ made c =
           (ap (λ (k : Slots). conditionsOf (m .plan .threads) k (m .wakes)) (w .1 .ensures) ∙ placed-seen (m .plan .threads) (m .slots) (m .wakes) (s .args .thread) 1 (omega arith))
           (w .3 .ensures)
           refl refl refl
-          (w .4 .ensures)
+          (told (c .making .ensures) (w .6) (w .4 .ensures))
           refl;
     }))
-    (λ w. refuses e (w .0 .left) (w .2) (ap reportsIn (w .1)) none')
-    (c .if1 .came)
+    (λ w. refuses e (w .0 .left) (w .1) refl (told (c .making .ensures) (w .2) (k .before .before .none .ensures)))
+    (j .if1 .came)
 
 chosen-requires : tie.Need-chosen-requires
-chosen-requires c κs = call-settles (start c .pre) (made c) .chooses
+chosen-requires c κs = call-settles (start (c .before) .pre) (made c) .chooses
 
 owing-requires : tie.Need-owing-requires
-owing-requires c κs = let j = c .before in call-settles (start j .pre) (made j) .room
+owing-requires c κs = let k = c .before in call-settles (start (k .before) .pre) (made k) .room
 
 returns : tie.Need-returns
 returns c =
     let h = c .before in
-    let j = h .before in
-    rw (c .owing .ensures) (record { answers = quiet-answers (start j .pre) (made j) refl (h .chosen .ensures); quiet' = refl })
+    let k = h .before in
+    rw (c .owing .ensures) (record { answers = quiet-answers (start (k .before) .pre) (made k) refl (h .chosen .ensures); quiet' = refl })
 
 pub create-spec : {M : Type 1} → statement M
-create-spec = tie.close (tie.spec cleared-requires create-rule-requires placed-requires push-requires one-requires chosen-requires owing-requires returns)
+create-spec = tie.close (tie.spec none-requires create-rule-requires placed-requires push-requires one-requires making-requires chosen-requires owing-requires returns)

@@ -97,21 +97,28 @@ made c none' =
     (λ w. refuses e (w .0 .left) (w .1) refl none')
     (c .if1 .came)
 
-chosen-requires : tie.Need-chosen-requires
-chosen-requires c κs = call-settles (start c .pre) (made c {rs = record { items = []; count = 0 }} refl) .chooses
+none-requires : tie.Need-none-requires
+none-requires c κs = tt
 
-cleared-requires : tie.Need-cleared-requires
-cleared-requires c κs = tt
+making-requires : tie.Need-making-requires
+making-requires c κs = tt
+
+-- and no report
+made-none : (c : tie.After-making) → (let j = c .before .before in Makes (j .if1 .m) (reportsIn (c .making .result)) (j .before .free-rule .result) (start j .args .self .machine) (records.Delay (start j .args .wait .0)))
+made-none c = let n = c .before in made (n .before) (c .making .ensures .stored [] (n .none .ensures))
+
+chosen-requires : tie.Need-chosen-requires
+chosen-requires c κs = call-settles (start (c .before .before) .pre) (made-none c) .chooses
 
 owing-requires : tie.Need-owing-requires
-owing-requires c κs = let j = c .before .before in call-settles (start j .pre) (made j {rs = reportsIn (c .cleared .result)} (c .cleared .ensures)) .room
+owing-requires c κs = let k = c .before in call-settles (start (k .before .before) .pre) (made-none k) .room
 
 returns : tie.Need-returns
 returns c =
-    let n = c .before in
-    let h = n .before in
-    let j = h .before in
-    rw (c .owing .ensures) (record { answers = call-answers (start j .pre) (made j (n .cleared .ensures)) (h .chosen .ensures) (unknown-quiet (j .if1 .m)); quiet' = refl })
+    let h = c .before in
+    let k = h .before in
+    let j = k .before .before in
+    rw (c .owing .ensures) (record { answers = call-answers (start j .pre) (made-none k) (h .chosen .ensures) (unknown-quiet (j .if1 .m)); quiet' = refl })
 
 pub delay-spec : {M : Type 1} → statement M
 delay-spec =
@@ -125,7 +132,8 @@ delay-spec =
     mul-wakes
     array-set-from-wakes
     without-requires
+    none-requires
+    making-requires
     chosen-requires
-    cleared-requires
     owing-requires
     returns)

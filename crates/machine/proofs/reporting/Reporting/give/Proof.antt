@@ -2,7 +2,7 @@
 use mathlib.Core.Bool.{Bool, true, false, not, true≢false}
 use mathlib.Core.Path.{_≡_, refl, ap, ap₂, sym, _∙_}
 use mathlib.Core.Logic.{⊎-elim}
-use mathlib.Core.List.{List, [], _∷_, _++_, List·Memᴰ as Mem}
+use mathlib.Core.List.{List, [], _∷_, List·Memᴰ as Mem}
 use mathlib.Core.Option.{Option, none, some}
 use Prim.Native.Nat.{ℕ, _<_}
 use native.Mathlib.Omega.{arith}
@@ -31,7 +31,7 @@ use Rattle.clock.specs.View.{numberAt}
 use Rattle.machine.proofs.Views.{condition-at, placed-seen}
 use Rattle.machine.proofs.Room.{waiting-known, waiting-fits, waiting-room, held-once, give-room}
 use Rattle.machine.proofs.Chosen.{listed, above-is, heir-same, inherits-same, waits-positive}
-use Rattle.machine.proofs.Meets.{alike, owed-count}
+use Rattle.machine.proofs.Meets.{alike, told}
 use Rattle.machine.proofs.Outcomes.{give-asked, call-settles, quiet-answers}
 use Rattle.machine.proofs.reporting.Reporting.give.Statement.{statement}
 use Rattle.machine.proofs.reporting.Reporting.give.Tie as tie
@@ -108,8 +108,8 @@ tested m ceilings f c w e {hs} {left} z r v q k =
     ∙ ap (aboveAll (planOf m) w) z)
     ∙ k
 
-cleared-requires : tie.Need-cleared-requires
-cleared-requires c κs = tt
+none-requires : tie.Need-none-requires
+none-requires c κs = tt
 
 -- what is known of the machine that came
 known : (s : tie.Start) → Facts (s .args .self .machine)
@@ -176,20 +176,22 @@ push-requires-2 c κs =
     let f = known s in
     (waiting-room f (h .find-heir .result .who) (waits-for (s .args .self .machine) f (h .find-heir .result .who) (h .find-heir .ensures .0) (free-heir t)), heir-below t)
 
+won-requires : tie.Need-won-requires
+won-requires c κs = tt
+
 one-requires : tie.Need-one-requires
 one-requires c κs = tt
 
-two-requires : tie.Need-two-requires
-two-requires c κs = owed-count (reportsIn (c .one .result)) (c .one .ensures)
-
-one-requires-2 : tie.Need-one-requires-2
-one-requires-2 c κs = tt
+making-requires : tie.Need-making-requires
+making-requires c κs = tt
 
 -- What is left before the Switch: no rule is broken, or one is. Where none is, three ways meet: the heir wins, the heir loses, nobody waits. Last in
 -- each stand the machine and the reports, and in the inner ones the holds.
-made : (c : tie.Joined1) → (let s = start (c .before) in Makes (c .if1 .m) (reportsIn (c .if1 .c)) (c .before .give-rule .result) (s .args .self .machine) (records.Give (s .args .section)))
+made : (c : tie.After-making)
+    → (let j = c .before in let s = start (j .before) in Makes (j .if1 .m) (reportsIn (c .making .result)) (j .before .give-rule .result) (s .args .self .machine) (records.Give (s .args .section)))
 made c =
-    let r = c .before in
+    let j = c .before in
+    let r = j .before in
     let s = start r in
     let m = s .args .self .machine in
     let x = s .args .self .chosen in
@@ -197,19 +199,19 @@ made c =
     let a = give-asked (s .pre) in
     let f = known s in
     let q = r .give-rule .ensures ∙ give-rule a in
-    let none' = r .before .before .before .before .before .before .cleared .ensures in
+    let none' = r .before .before .before .before .before .none .ensures in
     ⊎-elim
     (λ v.
     let g = gives a (sym q ∙ v .0 .taken) in
     let left = v .1 .ensures in
     let t = v .2 .result .who in
     let e = v .2 .ensures in
-    admits q (by (g .runs) (λ y. give (planOf m) y n)) (v .0 .taken) (v .5) (ap reportsIn (v .4))
+    admits q (by (g .runs) (λ y. give (planOf m) y n)) (v .0 .taken) (v .4) refl
     (⊎-elim
     (λ w.
     let d = somebody m f t (e .0) (s .args .ceilings .now) (held (v .1 .result)) (e .1) (w .0 .taken) in
     let o = named (heirIn m) t (is-heir m f t (e .0)) d in
-    rw (w .10, w .11, w .12)
+    rw (w .9, w .11)
     (record {
       plan' = refl;
       seen =
@@ -221,44 +223,44 @@ made c =
           (w .3 .ensures ∙ ap₂ (λ (k : ℕ) (hs : List Hold). hold k t ∷ hs) (w .2 .ensures ∙ wants-is m f t (e .0) d) left)
           (w .4 .ensures)
           refl
-          (w .9 .ensures ∙ ap (λ l. l ++ (Ready t ∷ [])) (w .8 .ensures))
+          (told (c .making .ensures) (v .5 ∙ w .10) (w .8 .ensures))
           refl);
     }))
     (⊎-elim
     (λ w.
     let o = named (heirIn m) t (is-heir m f t (e .0)) (w .1 .taken) in
-    rw (w .3, w .4, w .5)
+    rw (w .3, w .5)
     (record {
       plan' = refl;
       seen =
           lost-seen (planOf m) x n (idle m) t o
           (tested m (s .args .ceilings .now) f (s .pre .asks .ceilings') t o left (v .2 .result .free) false (e .1) (w .0 .left))
-          (alike refl refl refl left refl refl (w .2 .ensures) refl);
+          (alike refl refl refl left refl refl (told (c .making .ensures) (v .5 ∙ w .4) (w .2 .ensures)) refl);
     }))
     (λ w.
-    rw (w .2, w .3, w .4)
-    (record { plan' = refl; seen = none-seen (planOf m) x n (idle m) (nobody m f t (e .0) (w .1 .left)) (alike refl refl refl left refl refl none' refl) })))
+    rw (w .2, w .4)
+    (record { plan' = refl; seen = none-seen (planOf m) x n (idle m) (nobody m f t (e .0) (w .1 .left)) (alike refl refl refl left refl refl (told (c .making .ensures) (v .5 ∙ w .3) none') refl) })))
     (v .3 .came)))
-    (λ v. refuses q (v .0 .left) (v .2) (ap reportsIn (v .1)) none')
-    (c .if1 .came)
+    (λ v. refuses q (v .0 .left) (v .1) refl (told (c .making .ensures) (v .2) none'))
+    (j .if1 .came)
 
 chosen-requires : tie.Need-chosen-requires
-chosen-requires c κs = call-settles (start (c .before) .pre) (made c) .chooses
+chosen-requires c κs = call-settles (start (c .before .before) .pre) (made c) .chooses
 
 owing-requires : tie.Need-owing-requires
-owing-requires c κs = let j = c .before in call-settles (start (j .before) .pre) (made j) .room
+owing-requires c κs = let k = c .before in call-settles (start (k .before .before) .pre) (made k) .room
 
 returns : tie.Need-returns
 returns c =
     let h = c .before in
-    let j = h .before in
-    rw (c .owing .ensures) (record { answers = quiet-answers (start (j .before) .pre) (made j) refl (h .chosen .ensures); quiet' = refl })
+    let k = h .before in
+    rw (c .owing .ensures) (record { answers = quiet-answers (start (k .before .before) .pre) (made k) refl (h .chosen .ensures); quiet' = refl })
 
 pub give-spec : {M : Type 1} → statement M
 give-spec =
     tie.close
     (tie.spec
-    cleared-requires
+    none-requires
     give-rule-requires
     without-requires
     find-heir-requires
@@ -267,9 +269,9 @@ give-spec =
     without-requires-2
     placed-requires
     push-requires-2
+    won-requires
     one-requires
-    two-requires
-    one-requires-2
+    making-requires
     chosen-requires
     owing-requires
     returns)

@@ -24,7 +24,7 @@ use Rattle.machine.proofs.Facts.{facts}
 use Rattle.lists.proofs.Laws.{length-queued}
 use Rattle.machine.proofs.Room.{caller-known, caller-fits, without-room}
 use Rattle.machine.proofs.Chosen.{listed, rivalled-is, rivalled-same}
-use Rattle.machine.proofs.Meets.{alike}
+use Rattle.machine.proofs.Meets.{alike, told}
 use Rattle.machine.proofs.Outcomes.{caller-asked, call-settles, quiet-answers}
 use Rattle.machine.proofs.reporting.Reporting.relinquish.Statement.{statement}
 use Rattle.machine.proofs.reporting.Reporting.relinquish.Tie as tie
@@ -54,8 +54,8 @@ module _ {m : Machine} {x : ℕ} (a : Asked m x 0) where
       let f = facts (a .formed) in
       sym (e ∙ rivalled-same (m .plan .bases) ceilings (listed f) x h ∙ rivalled-is m (f .valid) c [] x) ∙ k
 
-cleared-requires : tie.Need-cleared-requires
-cleared-requires c κs = tt
+none-requires : tie.Need-none-requires
+none-requires c κs = tt
 
 run-rule-requires : tie.Need-run-rule-requires
 run-rule-requires c κs = tt
@@ -83,50 +83,54 @@ one-requires c κs = tt
 abbrev start : tie.Joined1 → tie.Start
 start c = c .before .before .before .before
 
+making-requires : tie.Need-making-requires
+making-requires c κs = tt
+
 -- what is left before the Switch: the caller is rivalled, it is not, or the rule is broken. Last in each way stand the machine and the reports.
-made : (c : tie.Joined1) → Makes (c .if1 .m) (reportsIn (c .if1 .c)) (c .before .run-rule .result) (start c .args .self .machine) records.Relinquish
+made : (c : tie.After-making) → (let j = c .before in Makes (j .if1 .m) (reportsIn (c .making .result)) (j .before .run-rule .result) (start j .args .self .machine) records.Relinquish)
 made c =
-    let k = c .before in
-    let s = start c in
+    let j = c .before in
+    let k = j .before in
+    let s = start j in
     let m = s .args .self .machine in
     let x = s .args .self .chosen in
     let a = caller-asked (s .pre) in
     let e = k .run-rule .ensures ∙ relinquish-rule a in
-    let none' = k .before .before .cleared .ensures in
+    let none' = k .before .none .ensures in
     ⊎-elim
     (λ w.
     let g = admitted a (k .run-rule .ensures) (w .0 .taken) in
     let t = tested a (s .args .ceilings .now) (s .pre .asks .ceilings') (w .6 .result) true (caller-known g) (w .6 .ensures) (w .7 .taken) in
-    admits e (by g (relinquish (planOf m)) ∙ yields (planOf m) x (idle m) t) (w .0 .taken) (w .12) (ap reportsIn (w .11))
+    admits e (by g (relinquish (planOf m)) ∙ yields (planOf m) x (idle m) t) (w .0 .taken) (w .11) refl
     (record {
       plan' = refl;
       seen =
           alike refl refl
           (w .9 .ensures ∙ ap (λ l. l ++ (x ∷ [])) (w .8 .ensures))
           refl refl refl
-          (w .10 .ensures)
+          (told (c .making .ensures) (w .12) (w .10 .ensures))
           refl;
     }))
     (⊎-elim
     (λ w.
     let g = admitted a (k .run-rule .ensures) (w .0 .taken) in
     let t = tested a (s .args .ceilings .now) (s .pre .asks .ceilings') (w .6 .result) false (caller-known g) (w .6 .ensures) (w .7 .left) in
-    admits e (by g (relinquish (planOf m)) ∙ stays (planOf m) x (idle m) t) (w .0 .taken) (w .9) (ap reportsIn (w .8))
-    (record { plan' = refl; seen = alike refl refl refl refl refl refl none' refl }))
-    (λ w. refuses e (w .0 .left) (w .2) (ap reportsIn (w .1)) none'))
-    (c .if1 .came)
+    admits e (by g (relinquish (planOf m)) ∙ stays (planOf m) x (idle m) t) (w .0 .taken) (w .8) refl
+    (record { plan' = refl; seen = alike refl refl refl refl refl refl (told (c .making .ensures) (w .9) none') refl }))
+    (λ w. refuses e (w .0 .left) (w .1) refl (told (c .making .ensures) (w .2) none')))
+    (j .if1 .came)
 
 chosen-requires : tie.Need-chosen-requires
-chosen-requires c κs = call-settles (start c .pre) (made c) .chooses
+chosen-requires c κs = call-settles (start (c .before) .pre) (made c) .chooses
 
 owing-requires : tie.Need-owing-requires
-owing-requires c κs = let j = c .before in call-settles (start j .pre) (made j) .room
+owing-requires c κs = let k = c .before in call-settles (start (k .before) .pre) (made k) .room
 
 returns : tie.Need-returns
 returns c =
     let h = c .before in
-    let j = h .before in
-    rw (c .owing .ensures) (record { answers = quiet-answers (start j .pre) (made j) refl (h .chosen .ensures); quiet' = refl })
+    let k = h .before in
+    rw (c .owing .ensures) (record { answers = quiet-answers (start (k .before) .pre) (made k) refl (h .chosen .ensures); quiet' = refl })
 
 pub relinquish-spec : {M : Type 1} → statement M
-relinquish-spec = tie.close (tie.spec cleared-requires run-rule-requires rivalled-of-requires without-requires push-requires one-requires chosen-requires owing-requires returns)
+relinquish-spec = tie.close (tie.spec none-requires run-rule-requires rivalled-of-requires without-requires push-requires one-requires making-requires chosen-requires owing-requires returns)

@@ -30,17 +30,21 @@ made c {rs} none' =
     let r = c .before .before .run-rule in
     sets (s .args .self .machine) (records.Start (s .args .number)) (c .started .result) rs (r .ensures ∙ start-rule (caller-asked (s .pre)) (s .args .number)) (c .started .ensures) (none-due rs (r .result) none')
 
-cleared-requires : tie.Need-cleared-requires
-cleared-requires c κs = tt
+none-requires : tie.Need-none-requires
+none-requires c κs = tt
+
+making-requires : tie.Need-making-requires
+making-requires c κs = tt
 
 owing-requires : tie.Need-owing-requires
-owing-requires c κs = let t = c .before in call-settles (start t .pre) (made t {rs = reportsIn (c .cleared .result)} (c .cleared .ensures)) .room
+owing-requires c κs = let n = c .before in let t = n .before in call-settles (start t .pre) (made t {rs = reportsIn (c .making .result)} (c .making .ensures .stored [] (n .none .ensures))) .room
 
 returns : tie.Need-returns
 returns c =
-    let n = c .before in
+    let k = c .before in
+    let n = k .before in
     let t = n .before in
-    rw (c .owing .ensures) (timer-answers (start t .pre) (made t (n .cleared .ensures)))
+    rw (c .owing .ensures) (timer-answers (start t .pre) (made t (k .making .ensures .stored [] (n .none .ensures))))
 
 pub start-spec : {M : Type 1} → statement M
-start-spec = tie.close (tie.spec run-rule-requires started-requires cleared-requires owing-requires returns)
+start-spec = tie.close (tie.spec run-rule-requires started-requires none-requires making-requires owing-requires returns)

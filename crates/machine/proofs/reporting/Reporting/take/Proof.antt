@@ -25,7 +25,7 @@ use Rattle.machine.proofs.Facts.{Facts, facts}
 use Rattle.machine.proofs.Room.{caller-fits, take-room, waits-room}
 use Rattle.machine.proofs.Chosen.{listed, above-is}
 use Rattle.machine.proofs.Views.{waits-seen}
-use Rattle.machine.proofs.Meets.{alike}
+use Rattle.machine.proofs.Meets.{alike, told}
 use Rattle.machine.proofs.Outcomes.{take-asked, call-settles, quiet-answers}
 use Rattle.machine.proofs.reporting.Reporting.take.Statement.{statement}
 use Rattle.machine.proofs.reporting.Reporting.take.Tie as tie
@@ -48,8 +48,8 @@ module _ (p : Plan) (x s : ℕ) (st : State) {a : State} where
   unfolding take
   lost-seen e q = rw e q
 
-cleared-requires : tie.Need-cleared-requires
-cleared-requires c κs = tt
+none-requires : tie.Need-none-requires
+none-requires c κs = tt
 
 section-fits : (s : tie.Start) → s .args .section < 16
 section-fits s = let a = take-asked (s .pre) in omega (arith, a .known, facts (a .asked .formed) .fits .sections)
@@ -107,10 +107,15 @@ push-requires-2 c κs = let g = granted (c .before .before .before .before .befo
 one-requires-2 : tie.Need-one-requires-2
 one-requires-2 c κs = tt
 
+making-requires : tie.Need-making-requires
+making-requires c κs = tt
+
 -- what is left before the Switch: the caller wins, the caller waits, a rule is broken. Last in each way stand the machine and the reports.
-made : (c : tie.Joined1) → (let s = start (c .before) in Makes (c .if1 .m) (reportsIn (c .if1 .c)) (c .before .take-rule .result) (s .args .self .machine) (records.Take (s .args .section)))
+made : (c : tie.After-making)
+    → (let j = c .before in let s = start (j .before) in Makes (j .if1 .m) (reportsIn (c .making .result)) (j .before .take-rule .result) (s .args .self .machine) (records.Take (s .args .section)))
 made c =
-    let r = c .before in
+    let j = c .before in
+    let r = j .before in
     let s = start r in
     let m = s .args .self .machine in
     let x = s .args .self .chosen in
@@ -120,17 +125,17 @@ made c =
     let above = tested m (s .args .ceilings .now) (known s) (s .pre .asks .ceilings') x in
     ⊎-elim
     (λ w.
-    admits e (by (takes a (sym e ∙ w .0 .taken) .runs) (λ y. take (planOf m) y n)) (w .0 .taken) (w .7) (ap reportsIn (w .6))
+    admits e (by (takes a (sym e ∙ w .0 .taken) .runs) (λ y. take (planOf m) y n)) (w .0 .taken) (w .6) refl
     (record {
       plan' = refl;
       seen =
           won-seen (planOf m) x n (idle m)
           (above (w .1 .result) (w .2 .result) true (w .1 .ensures) (w .2 .ensures) (w .3 .taken))
-          (alike refl refl refl (w .4 .ensures) refl refl (w .5 .ensures) refl);
+          (alike refl refl refl (w .4 .ensures) refl refl (told (c .making .ensures) (w .7) (w .5 .ensures)) refl);
     }))
     (⊎-elim
     (λ w.
-    admits e (by (takes a (sym e ∙ w .0 .taken) .runs) (λ y. take (planOf m) y n)) (w .0 .taken) (w .12) (ap reportsIn (w .11))
+    admits e (by (takes a (sym e ∙ w .0 .taken) .runs) (λ y. take (planOf m) y n)) (w .0 .taken) (w .11) refl
     (record {
       plan' = refl;
       seen =
@@ -142,29 +147,29 @@ made c =
           refl
           (w .9 .ensures)
           refl
-          (w .10 .ensures)
+          (told (c .making .ensures) (w .12) (w .10 .ensures))
           refl);
     }))
-    (λ w. refuses e (w .0 .left) (w .2) (ap reportsIn (w .1)) (r .before .before .before .before .before .before .cleared .ensures)))
-    (c .if1 .came)
+    (λ w. refuses e (w .0 .left) (w .1) refl (told (c .making .ensures) (w .2) (r .before .before .before .before .before .none .ensures))))
+    (j .if1 .came)
 
 chosen-requires : tie.Need-chosen-requires
-chosen-requires c κs = call-settles (start (c .before) .pre) (made c) .chooses
+chosen-requires c κs = call-settles (start (c .before .before) .pre) (made c) .chooses
 
 owing-requires : tie.Need-owing-requires
-owing-requires c κs = let j = c .before in call-settles (start (j .before) .pre) (made j) .room
+owing-requires c κs = let k = c .before in call-settles (start (k .before .before) .pre) (made k) .room
 
 returns : tie.Need-returns
 returns c =
     let h = c .before in
-    let j = h .before in
-    rw (c .owing .ensures) (record { answers = quiet-answers (start (j .before) .pre) (made j) refl (h .chosen .ensures); quiet' = refl })
+    let k = h .before in
+    rw (c .owing .ensures) (record { answers = quiet-answers (start (k .before .before) .pre) (made k) refl (h .chosen .ensures); quiet' = refl })
 
 pub take-spec : {M : Type 1} → statement M
 take-spec =
     tie.close
     (tie.spec
-    cleared-requires
+    none-requires
     take-rule-requires
     base-requires
     clear-requires
@@ -174,6 +179,7 @@ take-spec =
     waits-for-requires
     push-requires-2
     one-requires-2
+    making-requires
     chosen-requires
     owing-requires
     returns)

@@ -33,10 +33,10 @@ use Rattle.machine.proofs.reporting.Reporting.tick.Statement.{statement
 use Rattle.machine.proofs.reporting.Reporting.tick.Tie as tie
 
 abbrev Inv-loop : tie.InvT-loop
-Inv-loop self ceilings m n number old wakes timers slots₀ queue₀ rs₀ i₀ slots queue rs i = (i ≤ n) × (n ≤ 16) × Woken m (number .0) slots queue rs i
+Inv-loop self ceilings n number asleep wakes timers slots₀ queue₀ rs₀ i₀ slots queue rs i = (i ≤ n) × (n ≤ 16) × Woken (self .machine) (number .0) slots queue rs i
 
 abbrev μ-loop : tie.MeasureT-loop
-μ-loop self ceilings m n number old wakes timers slots₀ queue₀ rs₀ i₀ slots queue rs i = n - i
+μ-loop self ceilings n number asleep wakes timers slots₀ queue₀ rs₀ i₀ slots queue rs i = n - i
 
 next-requires : tie.Need-next-requires Inv-loop μ-loop
 next-requires c κs = omega (arith, tick-asked (c .before .before .before .pre) .room)
@@ -177,14 +177,14 @@ made c =
     })
 
 chosen-requires : tie.Need-chosen-requires Inv-loop μ-loop
-chosen-requires c κs = let l = c .before in call-settles (start (l .before .before) .pre) (made l) .chooses
+chosen-requires c κs = let l = c .before .before in call-settles (start (l .before .before) .pre) (made l) .chooses
 
 telling-requires : tie.Need-telling-requires Inv-loop μ-loop
 telling-requires c κs = tt
 
 owing-requires : tie.Need-owing-requires Inv-loop μ-loop
 owing-requires c κs =
-    let l = c .before .before .before in
+    let l = c .before .before .before .before in
     omega (arith, ap (λ (rs : Reports). rs .count) (c .telling .ensures), call-settles (start (l .before .before) .pre) (made l) .room)
 
 -- what happens next was asked of the machine as it is now
@@ -192,7 +192,7 @@ returns : tie.Need-returns Inv-loop μ-loop
 returns c =
     let t = c .before in
     let h = t .before in
-    let q = h .before in
+    let q = h .before .before in
     let l = q .before in
     let m = ticked l in
     let is = c .owing .ensures ∙ ap (λ (rs : Reports). owing m rs 0 (h .chosen .result) (q .next-event .result)) (t .telling .ensures) in

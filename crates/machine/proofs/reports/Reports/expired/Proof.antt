@@ -8,7 +8,7 @@ use native.Mathlib.Omega.{arith}
 use lib.ListN.{length, length-map}
 use Rattle.model.specs.Searches.{filter, upTo}
 use Rattle.model.specs.Records.{timerCount, Expire}
-use Rattle.model.specs.Timers.{slot, expiresAt, expired}
+use Rattle.model.specs.Timers.{slot, expiresAt}
 use Rattle.model.proofs.Loops.{length-listed, upTo-more, map-append, filter-few}
 use Rattle.lists.proofs.Laws.{filter-kept, filter-dropped}
 use Rattle.clock.specs.declared.timers.Timers.{Timers}

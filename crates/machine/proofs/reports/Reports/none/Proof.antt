@@ -3,8 +3,11 @@ use mathlib.Core.Path.{refl}
 use Rattle.machine.proofs.reports.Reports.none.Statement.{statement}
 use Rattle.machine.proofs.reports.Reports.none.Tie as tie
 
+of-requires : tie.Need-of-requires
+of-requires c κs = tt
+
 returns : tie.Need-returns
 returns c = refl
 
 pub none-spec : {M : Type 1} → statement M
-none-spec = tie.close (tie.spec returns)
+none-spec = tie.close (tie.spec of-requires returns)
