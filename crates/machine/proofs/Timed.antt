@@ -21,8 +21,9 @@ use Rattle.clock.specs.declared.timers.Timers.{Timers}
 use Rattle.clock.specs.View as timing
 use Rattle.machine.specs.declared.Machine.{Machine}
 use Rattle.machine.specs.declared.reports.Reports.{Reports}
+use Rattle.machine.specs.declared.reports.Made.{Made}
 use Rattle.machine.specs.declared.reporting.Reporting.{Reporting}
-use Rattle.machine.specs.Lists.{owed}
+use Rattle.machine.specs.Lists.{owed, Tells}
 use Rattle.machine.specs.View.{planOf, viewed, idle}
 use Rattle.machine.specs.Contracts.{owing}
 use Rattle.machine.specs.Calls.{Calls, Called}
@@ -54,12 +55,9 @@ sets m k ts rs {rule} r e d =
     }
 
 -- of a call that owes no Late nothing is due, whatever its rule
-pub none-due : (rs : Reports) (rule : ℕ) → owed rs ≡ [] → owed rs ≡ cond (eqb rule 0) [] []
-none-due rs rule e = e ∙ go (eqb rule 0)
-  where
-    go : (b : Bool) → [] ≡ cond {A = List records.Report} b [] []
-    go true = refl
-    go false = refl
+pub no-late : {made : Made} → Tells made [] → (b : Bool) → Tells made (cond b [] [])
+no-late t true = t
+no-late t false = t
 
 -- the chosen thread does not depend on timers
 chosen-timed : (p : plan.Plan) (k : TimerCall) (st : state.State) → chosen p (calls.timing k st) ≡ chosen p st

@@ -2,7 +2,7 @@
 use mathlib.Core.Path.{_≡_}
 use mathlib.Core.Logic.{_⊎_}
 use mathlib.Core.Bool.{Bool, cond}
-use mathlib.Core.List.{List, map}
+use mathlib.Core.List.{List, [], map}
 use mathlib.Core.Option.{some}
 use Prim.Native.Nat.{ℕ, _+_, _%_, _≤_, _<_}
 use lib.Dec.{T, eqb}
@@ -10,8 +10,8 @@ use Rattle.model.specs.Searches.{upTo}
 use Rattle.model.specs.Plan as plan
 use Rattle.model.specs.Records as records
 use Rattle.model.specs.State.{asleep}
-use Rattle.model.specs.Timers.{Timer, slot}
-use Rattle.model.specs.Rules.{stage, callPlace}
+use Rattle.model.specs.Timers.{Timer, slot, setTimer, lateDue}
+use Rattle.model.specs.Rules.{stage, callPlace, broken}
 use Rattle.model.specs.Priorities.{chosen}
 use Rattle.model.specs.Runs.{moved, broke, step}
 use Rattle.model.specs.Formed.{formed, lastTick}
@@ -22,11 +22,12 @@ use Rattle.clock.specs.View as timing
 use Rattle.clock.specs.Contracts.{kindPlace}
 use Rattle.machine.specs.declared.slots.Slots.{Slots}
 use Rattle.machine.specs.declared.Machine.{Machine}
+use Rattle.machine.specs.declared.reports.Made.{Made}
 use Rattle.machine.specs.declared.reporting.Reporting.{Reporting}
 use Rattle.machine.specs.declared.state.State.{State}
-use Rattle.machine.specs.Lists.{reportRoom}
-use Rattle.machine.specs.View.{conditionIn, planOf, view, reportAt, shown}
-use Rattle.machine.specs.Rules.{dueRule}
+use Rattle.machine.specs.Lists.{reportRoom, Tells}
+use Rattle.machine.specs.View.{conditionIn, planOf, idle, view, reportAt, shown}
+use Rattle.machine.specs.Rules.{ruleNumber, dueRule}
 use Rattle.machine.specs.Contracts.{Ceilings, nextEventOf}
 
 -- the Switch has a place behind the reports of the array, and nothing else stands apart from it
@@ -91,6 +92,17 @@ quietAfter (records.Timing k) kept m = 0
 pub record Called (after c : Reporting) (k : records.Call) : Type 0 where
   pub answers : Answers after c (records.call k)
   pub quiet' : after .quiet .0 ≡ quietAfter k (c .quiet .0) (after .machine)
+
+-- What a call that sets timers found: the rule that it breaks, 0 if there is none; then the timers as the model sets them, and its Late.
+pub record Setting (c : Reporting) (k : records.TimerCall) (timers : Timers) (made : Made) (rule : ℕ) : Type 0 where
+  pub sets : Sets c k
+  pub rule' : rule ≡ ruleNumber (broken (planOf (c .machine)) (idle (c .machine)) (records.call (records.Timing k)))
+  pub timers' : timing.view timers ≡ cond (eqb rule 0) (setTimer k (c .machine .tick .0) (timing.view (c .machine .timers))) (timing.view (c .machine .timers))
+  pub made' : Tells made (cond (eqb rule 0) (lateDue k (c .machine .tick .0) (timing.view (c .machine .timers))) [])
+
+-- and what it then answers
+abbrev pub Timed : (r c : Reporting) → Timers → Made → (rule : ℕ) → Type 0
+Timed r c timers made rule = (k : records.TimerCall) → Setting c k timers made rule → Called r c (records.Timing k)
 
 -- 31: a record of this kind stands where the arming has come to
 abbrev pub inPlace : Machine → (kind : ℕ) → Bool

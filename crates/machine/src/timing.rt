@@ -1,11 +1,13 @@
 // What the calls that set timers do: Arm, Start and Period in a row arm one, Cancel unarms it. None of them moves a thread, so the chosen thread
 // stays; what happens next is no longer known.
+ghost use Prim.Native.Nat.{_≤_};
 ghost use Rattle.model.specs.Records as records;
-ghost use Rattle.machine.specs.Calls.{Sets, Called};
+ghost use Rattle.machine.specs.Calls.{Sets, Called, Timed};
 use crate::reporting::Reporting;
 use crate::reports::Made;
 use crate::rules;
 use clock::time::Tick;
+use clock::timers::Timers;
 
 impl Reporting {
     // Arm: see model, Timers.setTimer.
@@ -13,13 +15,10 @@ impl Reporting {
         requires { ⌜ Sets self (records.Arm timer) ⌝ }
         ensures { λ r. ⌜ Called r self (records.Timing (records.Arm timer)) ⌝ }
     {
-        let mut m = self.machine;
-        let caller = self.chosen;
-        let rule = rules::run_rule(caller);
+        let m = self.machine;
         let t = m.timers;
-        let t2 = t.begun(rule == 0, timer);
-        m.timers = t2;
-        self.making(Made::none()).owing(m, rule, caller, Tick(0))
+        let rule = rules::run_rule(self.chosen);
+        self.timed(t.begun(rule == 0, timer), Made::none(), rule)
     }
 
     // Start.
@@ -27,13 +26,10 @@ impl Reporting {
         requires { ⌜ Sets self (records.Start number) ⌝ }
         ensures { λ r. ⌜ Called r self (records.Timing (records.Start number)) ⌝ }
     {
-        let mut m = self.machine;
-        let caller = self.chosen;
-        let rule = rules::run_rule(caller);
+        let m = self.machine;
         let t = m.timers;
-        let t2 = t.started(rule == 0, number);
-        m.timers = t2;
-        self.making(Made::none()).owing(m, rule, caller, Tick(0))
+        let rule = rules::run_rule(self.chosen);
+        self.timed(t.started(rule == 0, number), Made::none(), rule)
     }
 
     // Period: Late is due, with the count of expiries lost.
@@ -41,18 +37,15 @@ impl Reporting {
         requires { ⌜ Sets self (records.Period ticks) ⌝ }
         ensures { λ r. ⌜ Called r self (records.Timing (records.Period ticks)) ⌝ }
     {
-        let mut m = self.machine;
-        let mut made = Made::none();
-        let caller = self.chosen;
-        let rule = rules::run_rule(caller);
-        let now = m.tick;
+        let m = self.machine;
         let t = m.timers;
+        let now = m.tick;
+        let rule = rules::run_rule(self.chosen);
+        let mut made = Made::none();
         if rule == 0 {
             made = Made::late(t.lost(now, ticks));
         }
-        let t2 = t.armed(rule == 0, now, ticks);
-        m.timers = t2;
-        self.making(made).owing(m, rule, caller, Tick(0))
+        self.timed(t.armed(rule == 0, now, ticks), made, rule)
     }
 
     // Cancel.
@@ -60,12 +53,20 @@ impl Reporting {
         requires { ⌜ Sets self (records.Cancel timer) ⌝ }
         ensures { λ r. ⌜ Called r self (records.Timing (records.Cancel timer)) ⌝ }
     {
-        let mut m = self.machine;
-        let caller = self.chosen;
+        let m = self.machine;
         let t = m.timers;
-        let rule = rules::cancel_rule(t, caller, timer);
-        let t2 = t.cancelled(rule == 0, timer);
-        m.timers = t2;
-        self.making(Made::none()).owing(m, rule, caller, Tick(0))
+        let rule = rules::cancel_rule(t, self.chosen, timer);
+        self.timed(t.cancelled(rule == 0, timer), Made::none(), rule)
+    }
+
+    // With these timers and reports, and the rule that is broken, 0 if there is none.
+    fn timed(self, timers: Timers, made: Made, rule: u8) -> Reporting
+        requires { ⌜ made .count ≤ 2 ⌝ }
+        ensures { λ r. ⌜ Timed r self timers made rule ⌝ }
+    {
+        let mut m = self.machine;
+        m.timers = timers;
+        let caller = self.chosen;
+        self.making(made).owing(m, rule, caller, Tick(0))
     }
 }
