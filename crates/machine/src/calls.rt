@@ -42,16 +42,14 @@ impl Reporting {
         requires { ⌜ Calls self (now ceilings) records.Tick ⌝ }
         ensures { λ r. ⌜ Called r self records.Tick ⌝ }
     {
-        let old = self.machine;
-        let p = old.plan;
-        let n = p.threads;
-        let now = old.tick;
+        let n = self.machine.plan.threads;
+        let now = self.machine.tick;
         let number = now.next();
-        let asleep = old.slots;
-        let wakes = old.wakes;
-        let mut slots = old.slots;
-        let mut queue = old.queue;
-        let timers = old.timers;
+        let asleep = self.machine.slots;
+        let wakes = self.machine.wakes;
+        let mut slots = self.machine.slots;
+        let mut queue = self.machine.queue;
+        let timers = self.machine.timers;
         let mut rs = Reports::expired(timers, number);
         let mut i: usize = 0;
         while i < n {

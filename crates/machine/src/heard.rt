@@ -32,8 +32,7 @@ impl Reporting {
         requires { ⌜ T (armingInRange (timing.view (self .machine .timers) .arming)) ⌝ }
         ensures { λ r. ⌜ r ≡ ltb (self .given) (self .due) || not (inPlace (self .machine) kind) ⌝ }
     {
-        let m = self.machine;
-        let t = m.timers;
+        let t = self.machine.timers;
         self.given < self.due || !t.in_order(kind)
     }
 
@@ -44,8 +43,7 @@ impl Reporting {
         ensures { λ r. ⌜ Hears r self kind operand ⌝ }
     {
         let mut c = self;
-        let m = self.machine;
-        let t = m.timers;
+        let t = self.machine.timers;
         let given = self.given;
         let mut rule: u8 = 31;
         if t.in_order(kind) {

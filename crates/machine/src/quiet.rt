@@ -34,12 +34,11 @@ impl Reporting {
         ensures { λ r. ⌜ r ≡ quieted self ⌝ }
     {
         let mut c = self;
-        let m = self.machine;
-        let p = m.plan;
-        let s = m.slots;
-        let wakes = m.wakes;
-        let t = m.timers;
-        let until = next_event(p.threads, s, wakes, t);
+        let n = self.machine.plan.threads;
+        let s = self.machine.slots;
+        let wakes = self.machine.wakes;
+        let t = self.machine.timers;
+        let until = next_event(n, s, wakes, t);
         c.quiet = until;
         c
     }
@@ -49,11 +48,10 @@ impl Reporting {
         requires { ⌜ self .machine .tick .0 < lastTick ⌝ }
         ensures { λ r. ⌜ r ≡ ltb (self .machine .tick .0 + 1) (self .quiet .0) && eqb (self .chosen) (self .machine .reported) ⌝ }
     {
-        let m = self.machine;
-        let now = m.tick;
+        let now = self.machine.tick;
         let number = now.next();
         let until = self.quiet;
-        number.0 < until.0 && self.chosen == m.reported
+        number.0 < until.0 && self.chosen == self.machine.reported
     }
 
     // The tick number grows, and nothing else changes.
@@ -62,8 +60,7 @@ impl Reporting {
         ensures { λ r. ⌜ r ≡ passed self ⌝ }
     {
         let mut c = self;
-        let m = c.machine;
-        let now = m.tick;
+        let now = self.machine.tick;
         let number = now.next();
         c.machine.tick.0 = number.0;
         c

@@ -15,8 +15,7 @@ impl Reporting {
         requires { ⌜ Sets self (records.Arm timer) ⌝ }
         ensures { λ r. ⌜ Called r self (records.Timing (records.Arm timer)) ⌝ }
     {
-        let m = self.machine;
-        let t = m.timers;
+        let t = self.machine.timers;
         let rule = rules::run_rule(self.chosen);
         self.timed(t.begun(rule == 0, timer), Made::none(), rule)
     }
@@ -26,8 +25,7 @@ impl Reporting {
         requires { ⌜ Sets self (records.Start number) ⌝ }
         ensures { λ r. ⌜ Called r self (records.Timing (records.Start number)) ⌝ }
     {
-        let m = self.machine;
-        let t = m.timers;
+        let t = self.machine.timers;
         let rule = rules::run_rule(self.chosen);
         self.timed(t.started(rule == 0, number), Made::none(), rule)
     }
@@ -37,9 +35,8 @@ impl Reporting {
         requires { ⌜ Sets self (records.Period ticks) ⌝ }
         ensures { λ r. ⌜ Called r self (records.Timing (records.Period ticks)) ⌝ }
     {
-        let m = self.machine;
-        let t = m.timers;
-        let now = m.tick;
+        let t = self.machine.timers;
+        let now = self.machine.tick;
         let rule = rules::run_rule(self.chosen);
         let mut made = Made::none();
         if rule == 0 {
@@ -53,8 +50,7 @@ impl Reporting {
         requires { ⌜ Sets self (records.Cancel timer) ⌝ }
         ensures { λ r. ⌜ Called r self (records.Timing (records.Cancel timer)) ⌝ }
     {
-        let m = self.machine;
-        let t = m.timers;
+        let t = self.machine.timers;
         let rule = rules::cancel_rule(t, self.chosen, timer);
         self.timed(t.cancelled(rule == 0, timer), Made::none(), rule)
     }

@@ -25,7 +25,7 @@ returns c =
     let n = c .before in
     let b = n .before in
     let r = b .before in
-    let s = r .before .before .before in
+    let s = r .before .before in
     let i = s .args .timer in
     c .timed .ensures (records.Arm i)
     (record { sets = s .pre; rule' = r .run-rule .ensures ∙ arm-rule (caller-asked (s .pre)) i; timers' = b .begun .ensures; made' = no-late (n .none .ensures) (eqb (r .run-rule .result) 0) })

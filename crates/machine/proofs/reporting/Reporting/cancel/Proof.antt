@@ -9,10 +9,10 @@ use Rattle.machine.proofs.reporting.Reporting.cancel.Statement.{stateme
 use Rattle.machine.proofs.reporting.Reporting.cancel.Tie as tie
 
 cancel-rule-requires : tie.Need-cancel-rule-requires
-cancel-rule-requires c κs = let s = c .before .before in ltb→lt (s .args .timer) 8 (s .pre .asks .allowed')
+cancel-rule-requires c κs = let s = c .before in ltb→lt (s .args .timer) 8 (s .pre .asks .allowed')
 
 cancelled-requires : tie.Need-cancelled-requires
-cancelled-requires c κs = let s = c .before .before .before in ltb→lt (s .args .timer) 8 (s .pre .asks .allowed')
+cancelled-requires c κs = let s = c .before .before in ltb→lt (s .args .timer) 8 (s .pre .asks .allowed')
 
 none-requires : tie.Need-none-requires
 none-requires c κs = tt
@@ -25,7 +25,7 @@ returns c =
     let n = c .before in
     let b = n .before in
     let r = b .before in
-    let s = r .before .before .before in
+    let s = r .before .before in
     let i = s .args .timer in
     c .timed .ensures (records.Cancel i)
     (record { sets = s .pre; rule' = r .cancel-rule .ensures ∙ cancel-rule (caller-asked (s .pre)) i; timers' = b .cancelled .ensures; made' = no-late (n .none .ensures) (eqb (r .cancel-rule .result) 0) })

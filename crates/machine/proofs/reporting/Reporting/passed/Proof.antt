@@ -4,7 +4,7 @@ use Rattle.machine.proofs.reporting.Reporting.passed.Statement.{stateme
 use Rattle.machine.proofs.reporting.Reporting.passed.Tie as tie
 
 next-requires : tie.Need-next-requires
-next-requires c κs = omega (arith, c .before .before .pre)
+next-requires c κs = omega (arith, c .before .pre)
 
 returns : tie.Need-returns
 returns c = rw (c .before .next .ensures)

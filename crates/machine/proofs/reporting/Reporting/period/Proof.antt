@@ -26,7 +26,7 @@ none-requires c κs = tt
 -- the arming has come to its start, and the tick number is one that there is
 lost-requires : tie.Need-lost-requires
 lost-requires c κs =
-    let a = caller-asked (c .before .before .before .before .before .before .pre) in
+    let a = caller-asked (c .before .before .before .before .before .pre) in
     let f = facts (a .formed) in
     (record { known = f .arming; stage' = a .ordered }, f .tick)
 
@@ -34,7 +34,7 @@ late-requires : tie.Need-late-requires
 late-requires c κs = tt
 
 abbrev start : tie.Joined1 → tie.Start
-start j = j .before .before .before .before .before .before
+start j = j .before .before .before .before .before
 
 armed-requires : tie.Need-armed-requires
 armed-requires c κs =

@@ -13,7 +13,7 @@ run-rule-requires : tie.Need-run-rule-requires
 run-rule-requires c κs = tt
 
 started-requires : tie.Need-started-requires
-started-requires c κs = let a = caller-asked (c .before .before .before .pre) in record { known = facts (a .formed) .arming; stage' = a .ordered }
+started-requires c κs = let a = caller-asked (c .before .before .pre) in record { known = facts (a .formed) .arming; stage' = a .ordered }
 
 none-requires : tie.Need-none-requires
 none-requires c κs = tt
@@ -26,7 +26,7 @@ returns c =
     let n = c .before in
     let b = n .before in
     let r = b .before in
-    let s = r .before .before .before in
+    let s = r .before .before in
     let i = s .args .number in
     c .timed .ensures (records.Start i)
     (record { sets = s .pre; rule' = r .run-rule .ensures ∙ start-rule (caller-asked (s .pre)) i; timers' = b .started .ensures; made' = no-late (n .none .ensures) (eqb (r .run-rule .result) 0) })

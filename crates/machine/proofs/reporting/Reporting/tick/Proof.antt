@@ -39,7 +39,7 @@ abbrev μ-loop : tie.MeasureT-loop
 μ-loop self ceilings n number asleep wakes timers slots₀ queue₀ rs₀ i₀ slots queue rs i = n - i
 
 next-requires : tie.Need-next-requires Inv-loop μ-loop
-next-requires c κs = omega (arith, tick-asked (c .before .before .before .pre) .room)
+next-requires c κs = omega (arith, tick-asked (c .before .pre) .room)
 
 expired-requires : tie.Need-expired-requires Inv-loop μ-loop
 expired-requires c κs = omega (arith, c .before .before .before .before .before .next .ensures)
@@ -47,7 +47,7 @@ expired-requires c κs = omega (arith, c .before .before .before .before .before
 loop-holds : tie.Need-loop-holds Inv-loop μ-loop
 loop-holds c =
     let a = c .before .before .before .before .before .before in
-    let s = a .before .before .before .before in
+    let s = a .before .before in
     let m = s .args .self .machine in
     (omega arith, facts (tick-asked (s .pre) .formed) .fits .threads, woken-begin m (a .next .result .0) (c .expired .result) (c .expired .ensures))
 
@@ -87,7 +87,7 @@ abbrev numbered-next : tie.At-loop Inv-loop μ-loop → tie.After-next Inv-loop 
 numbered-next l = l .before .before .before .before .before .before .before
 
 abbrev start : tie.At-loop Inv-loop μ-loop → tie.Start Inv-loop μ-loop
-start l = numbered-next l .before .before .before .before
+start l = numbered-next l .before .before
 
 -- whether this thread wakes, as the model asks
 wakes-now : (c : tie.After-sleeps-until Inv-loop μ-loop)
