@@ -22,14 +22,12 @@ impl Reporting {
     {
         let mut m = self.machine;
         let mut made = Made::none();
-        let s = m.slots;
-        let rule = rules::create_rule(s, thread);
+        let rule = rules::create_rule(m.slots, thread);
         if rule == 0 {
-            let s2 = s.placed(thread, 1);
-            m.slots = s2;
-            let q = m.queue;
-            let q2 = q.push(thread);
-            m.queue = q2;
+            let slots = m.slots.placed(thread, 1);
+            m.slots = slots;
+            let queue = m.queue.push(thread);
+            m.queue = queue;
             made = Made::one(16, thread);
         }
         let c = self.making(made);
@@ -79,21 +77,17 @@ impl Reporting {
     {
         let mut m = self.machine;
         let caller = self.chosen;
-        let h = m.holds;
-        let rule = rules::free_rule(h, caller);
+        let rule = rules::free_rule(m.holds, caller);
         if rule == 0 {
-            let now = m.tick;
-            let over = now.plus(wait);
+            let over = m.tick.plus(wait);
             let until = over.next();
-            let s = m.slots;
-            let s2 = s.placed(caller, 2);
-            m.slots = s2;
+            let slots = m.slots.placed(caller, 2);
+            m.slots = slots;
             let mut wakes = m.wakes;
             wakes[caller as usize] = until;
             m.wakes = wakes;
-            let q = m.queue;
-            let q2 = q.without(caller);
-            m.queue = q2;
+            let queue = m.queue.without(caller);
+            m.queue = queue;
         }
         let c = self.making(Made::none());
         let who = m.chosen(ceilings);
@@ -110,15 +104,11 @@ impl Reporting {
         let caller = self.chosen;
         let rule = rules::run_rule(caller);
         if rule == 0 {
-            let p = m.plan;
-            let b = p.bases;
-            let q = m.queue;
-            let h = m.holds;
-            let w = m.waits;
-            if choice::rivalled_of(b, ceilings, q, h, w, caller) {
-                let q2 = q.without(caller);
-                let q3 = q2.push(caller);
-                m.queue = q3;
+            let bases = m.plan.bases;
+            if choice::rivalled_of(bases, ceilings, m.queue, m.holds, m.waits, caller) {
+                let others = m.queue.without(caller);
+                let queue = others.push(caller);
+                m.queue = queue;
                 made = Made::one(20, caller);
             }
         }
@@ -134,15 +124,12 @@ impl Reporting {
     {
         let mut m = self.machine;
         let caller = self.chosen;
-        let h = m.holds;
-        let rule = rules::free_rule(h, caller);
+        let rule = rules::free_rule(m.holds, caller);
         if rule == 0 {
-            let s = m.slots;
-            let s2 = s.placed(caller, 0);
-            m.slots = s2;
-            let q = m.queue;
-            let q2 = q.without(caller);
-            m.queue = q2;
+            let slots = m.slots.placed(caller, 0);
+            m.slots = slots;
+            let queue = m.queue.without(caller);
+            m.queue = queue;
         }
         let c = self.making(Made::none());
         let who = m.chosen(ceilings);
@@ -157,27 +144,22 @@ impl Reporting {
         let mut m = self.machine;
         let mut made = Made::none();
         let caller = self.chosen;
-        let p = m.plan;
-        let bases = p.bases;
-        let needs = p.needs;
-        let h = m.holds;
-        let rule = rules::take_rule(p.threads, needs, h, caller, section);
+        let bases = m.plan.bases;
+        let needs = m.plan.needs;
+        let rule = rules::take_rule(m.plan.threads, needs, m.holds, caller, section);
         if rule == 0 {
-            let b = base(p.threads, bases, caller);
-            if h.clear(ceilings, caller, b) {
-                let h2 = h.push(section, caller);
-                m.holds = h2;
+            let b = base(m.plan.threads, bases, caller);
+            if m.holds.clear(ceilings, caller, b) {
+                let holds = m.holds.push(section, caller);
+                m.holds = holds;
                 made = Made::one(18, caller);
             } else {
-                let q = m.queue;
-                let q2 = q.without(caller);
-                m.queue = q2;
-                let s = m.slots;
-                let s2 = s.waits_for(caller, section);
-                m.slots = s2;
-                let w = m.waits;
-                let w2 = w.push(caller);
-                m.waits = w2;
+                let queue = m.queue.without(caller);
+                m.queue = queue;
+                let slots = m.slots.waits_for(caller, section);
+                m.slots = slots;
+                let waits = m.waits.push(caller);
+                m.waits = waits;
                 made = Made::one(19, caller);
             }
         }
@@ -194,30 +176,25 @@ impl Reporting {
         let mut m = self.machine;
         let mut made = Made::none();
         let caller = self.chosen;
-        let p = m.plan;
-        let bases = p.bases;
-        let h = m.holds;
-        let w = m.waits;
-        let rule = rules::give_rule(h, caller, section);
+        let bases = m.plan.bases;
+        let rule = rules::give_rule(m.holds, caller, section);
         if rule == 0 {
-            let mut h2 = h.without(section, caller);
-            let heir = choice::find_heir(bases, ceilings, w, h2);
+            let mut holds = m.holds.without(section, caller);
+            let heir = choice::find_heir(bases, ceilings, m.waits, holds);
             let t = heir.who;
             if heir.free {
-                let s = m.slots;
-                h2 = h2.push(s.wanted(t), t);
-                let w2 = w.without(t);
-                m.waits = w2;
-                let s2 = s.placed(t, 1);
-                m.slots = s2;
-                let q = m.queue;
-                let q2 = q.push(t);
-                m.queue = q2;
+                holds = holds.push(m.slots.wanted(t), t);
+                let waits = m.waits.without(t);
+                m.waits = waits;
+                let slots = m.slots.placed(t, 1);
+                m.slots = slots;
+                let queue = m.queue.push(t);
+                m.queue = queue;
                 made = Made::won(t);
             } else if t != 255 {
                 made = Made::one(19, t);
             }
-            m.holds = h2;
+            m.holds = holds;
         }
         let c = self.making(made);
         let who = m.chosen(ceilings);

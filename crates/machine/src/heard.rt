@@ -32,8 +32,7 @@ impl Reporting {
         requires { ⌜ T (armingInRange (timing.view (self .machine .timers) .arming)) ⌝ }
         ensures { λ r. ⌜ r ≡ ltb (self .given) (self .due) || not (inPlace (self .machine) kind) ⌝ }
     {
-        let t = self.machine.timers;
-        self.given < self.due || !t.in_order(kind)
+        self.given < self.due || !self.machine.timers.in_order(kind)
     }
 
     // Such a record, by its kind and operand: outside its place it breaks 31; a call breaks 21, and a report is the first due or breaks 29 or 30. A
@@ -43,10 +42,9 @@ impl Reporting {
         ensures { λ r. ⌜ Hears r self kind operand ⌝ }
     {
         let mut c = self;
-        let t = self.machine.timers;
         let given = self.given;
         let mut rule: u8 = 31;
-        if t.in_order(kind) {
+        if self.machine.timers.in_order(kind) {
             let first = self.first();
             rule = due_rule(first, kind, operand);
         }

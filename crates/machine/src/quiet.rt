@@ -34,11 +34,13 @@ impl Reporting {
         ensures { λ r. ⌜ r ≡ quieted self ⌝ }
     {
         let mut c = self;
-        let n = self.machine.plan.threads;
-        let s = self.machine.slots;
         let wakes = self.machine.wakes;
-        let t = self.machine.timers;
-        let until = next_event(n, s, wakes, t);
+        let until = next_event(
+            self.machine.plan.threads,
+            self.machine.slots,
+            wakes,
+            self.machine.timers,
+        );
         c.quiet = until;
         c
     }

@@ -61,12 +61,8 @@ impl Machine {
         requires { ⌜ Chooses self (now ceilings) ⌝ }
         ensures { λ r. ⌜ r ≡ numbered (chosen (planOf self) (idle self)) ⌝ }
     {
-        let p = self.plan;
-        let b = p.bases;
-        let q = self.queue;
-        let h = self.holds;
-        let w = self.waits;
-        choice::chosen_of(b, ceilings, q, h, w)
+        let bases = self.plan.bases;
+        choice::chosen_of(bases, ceilings, self.queue, self.holds, self.waits)
     }
 }
 

@@ -46,8 +46,7 @@ impl State {
     pub fn is_complete(self) -> bool
         ensures { λ r. ⌜ r ≡ isComplete (view self .timers .arming) ⌝ }
     {
-        let t = self.machine.timers;
-        t.is_complete()
+        self.machine.timers.is_complete()
     }
 
     // The report due first.

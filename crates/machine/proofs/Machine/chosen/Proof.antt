@@ -8,12 +8,12 @@ use Rattle.machine.proofs.Machine.chosen.Tie as tie
 
 chosen-of-requires : tie.Need-chosen-of-requires
 chosen-of-requires c κs =
-    let s = c .before .before .before .before .before in
+    let s = c .before in
     (s .pre .listed .counts, queue-positive (s .args .self .plan) (s .pre .valid) (s .pre .listed))
 
 returns : tie.Need-returns
 returns c =
-    let s = c .before .before .before .before .before .before in
+    let s = c .before .before in
     let m = s .args .self in
     c .chosen-of .ensures ∙ ap numbered (chosen-same (m .plan .bases) (s .args .ceilings .now) (s .pre .listed) ∙ chosen-is m (s .pre .valid) (s .pre .ceilings') [])
 

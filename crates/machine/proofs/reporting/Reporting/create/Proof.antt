@@ -31,23 +31,23 @@ none-requires : tie.Need-none-requires
 none-requires c κs = tt
 
 create-rule-requires : tie.Need-create-rule-requires
-create-rule-requires c κs = thread-fits (create-asked (c .before .before .before .pre))
+create-rule-requires c κs = thread-fits (create-asked (c .before .before .pre))
 
 placed-requires : tie.Need-placed-requires
-placed-requires c κs = (thread-fits (create-asked (c .before .before .before .before .before .pre)), omega arith)
+placed-requires c κs = (thread-fits (create-asked (c .before .before .before .before .pre)), omega arith)
 
 push-requires : tie.Need-push-requires
 push-requires c κs =
-    let d = c .before .before in
+    let d = c .before in
     let k = d .before in
-    let a = create-asked (k .before .before .before .before .pre) in
+    let a = create-asked (k .before .before .before .pre) in
     (create-room (admitted a (k .create-rule .ensures) (d .if1 .taken)), thread-fits a)
 
 one-requires : tie.Need-one-requires
 one-requires c κs = tt
 
 abbrev start : tie.Joined1 → tie.Start
-start c = c .before .before .before .before .before
+start c = c .before .before .before .before
 
 making-requires : tie.Need-making-requires
 making-requires c κs = tt
@@ -65,18 +65,18 @@ made c =
     let e = k .create-rule .ensures ∙ create-rule a in
     ⊎-elim
     (λ w.
-    admits e refl (w .0 .taken) (w .5) refl
+    admits e refl (w .0 .taken) (w .4) refl
     (record {
       plan' = refl;
       seen =
           alike refl
           (ap (λ (k : Slots). conditionsOf (m .plan .threads) k (m .wakes)) (w .1 .ensures) ∙ placed-seen (m .plan .threads) (m .slots) (m .wakes) (s .args .thread) 1 (omega arith))
-          (w .3 .ensures)
+          (w .2 .ensures)
           refl refl refl
-          (told (c .making .ensures) (w .6) (w .4 .ensures))
+          (told (c .making .ensures) (w .5) (w .3 .ensures))
           refl;
     }))
-    (λ w. refuses e (w .0 .left) (w .1) refl (told (c .making .ensures) (w .2) (k .before .before .none .ensures)))
+    (λ w. refuses e (w .0 .left) (w .1) refl (told (c .making .ensures) (w .2) (k .before .none .ensures)))
     (j .if1 .came)
 
 chosen-requires : tie.Need-chosen-requires

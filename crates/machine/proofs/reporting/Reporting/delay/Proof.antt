@@ -32,40 +32,40 @@ admitted : {m : Machine} {x rule : ℕ} → Asked m x 0 → (n : ℕ) → rule �
 admitted a n e z = delays a n (sym (delay-rule a n) ∙ sym e ∙ z)
 
 free-rule-requires : tie.Need-free-rule-requires
-free-rule-requires c κs = listed (facts (caller-asked (c .before .before .pre) .formed)) .counts .holds'
+free-rule-requires c κs = listed (facts (caller-asked (c .before .pre) .formed)) .counts .holds'
 
 -- the tick number has room for the wait, and for one more
 
 plus-requires : tie.Need-plus-requires
-plus-requires c κs = let a = c .before .before .before .before .before .pre in omega (arith, facts (caller-asked a .formed) .tick, short-wait a)
+plus-requires c κs = let a = c .before .before .before .pre in omega (arith, facts (caller-asked a .formed) .tick, short-wait a)
 
 next-requires : tie.Need-next-requires
-next-requires c κs = let a = c .before .before .before .before .before .before .pre in omega (arith, c .plus .ensures, facts (caller-asked a .formed) .tick, short-wait a)
+next-requires c κs = let a = c .before .before .before .before .pre in omega (arith, c .plus .ensures, facts (caller-asked a .formed) .tick, short-wait a)
 
 -- where no rule is broken the caller is a thread
-fits : (c : tie.Then1) → c .before .before .before .before .args .self .chosen < 16
+fits : (c : tie.Then1) → c .before .before .before .args .self .chosen < 16
 fits c =
     let k = c .before in
-    let s = k .before .before .before in
+    let s = k .before .before in
     caller-fits (admitted (caller-asked (s .pre)) (s .args .wait .0) (k .free-rule .ensures) (c .if1 .taken))
 
 placed-requires : tie.Need-placed-requires
-placed-requires c κs = (fits (c .before .before .before .before), omega arith)
+placed-requires c κs = (fits (c .before .before), omega arith)
 
 cast-wakes : tie.Need-cast-wakes
-cast-wakes c = omega (arith, fits (c .before .before .before .before .before .before))
+cast-wakes c = omega (arith, fits (c .before .before .before .before))
 
 mul-wakes : tie.Need-mul-wakes
-mul-wakes c = record { fits = omega (arith, fits (c .before .before .before .before .before .before)) }
+mul-wakes c = record { fits = omega (arith, fits (c .before .before .before .before)) }
 
 array-set-from-wakes : tie.Need-array-set-from-wakes
-array-set-from-wakes c = fits (c .before .before .before .before .before .before)
+array-set-from-wakes c = fits (c .before .before .before .before)
 
 without-requires : tie.Need-without-requires
-without-requires c κs = listed (facts (caller-asked (c .before .before .before .before .before .before .before .before .before .before .before .pre) .formed)) .counts .queue'
+without-requires c κs = listed (facts (caller-asked (c .before .before .before .before .before .before .before .pre) .formed)) .counts .queue'
 
 abbrev start : tie.Joined1 → tie.Start
-start c = c .before .before .before .before
+start c = c .before .before .before
 
 -- what is left before the Switch: the caller may sleep, or a rule is broken. Last in each way stands the machine.
 made : (c : tie.Joined1) {rs : Reports} → owed rs ≡ [] → Makes (c .if1 .m) rs (c .before .free-rule .result) (start c .args .self .machine) (records.Delay (start c .args .wait .0))
@@ -81,15 +81,15 @@ made c none' =
     ⊎-elim
     (λ w.
     let r = admitted a n (k .free-rule .ensures) (w .0 .taken) in
-    admits e (by r (λ y. delay y n)) (w .0 .taken) (w .9) refl
+    admits e (by r (λ y. delay y n)) (w .0 .taken) (w .6) refl
     (record {
       plan' = refl;
       seen =
           alike refl
-          (ap (λ (k : Slots). conditionsOf (m .plan .threads) k (set (m .wakes) x (w .3 .result))) (w .5 .ensures)
-          ∙ sleeps-seen (m .plan .threads) (m .slots) (m .wakes) x (w .3 .result) (omega (arith, caller-fits r, slept-size (s .args .self) (s .good .0)))
-          ∙ ap (λ u. set (conditionsOf (m .plan .threads) (m .slots) (m .wakes)) x (asleep u)) (w .3 .ensures ∙ ap (λ u. u + 1) (w .2 .ensures)))
-          (w .8 .ensures)
+          (ap (λ (k : Slots). conditionsOf (m .plan .threads) k (set (m .wakes) x (w .2 .result))) (w .3 .ensures)
+          ∙ sleeps-seen (m .plan .threads) (m .slots) (m .wakes) x (w .2 .result) (omega (arith, caller-fits r, slept-size (s .args .self) (s .good .0)))
+          ∙ ap (λ u. set (conditionsOf (m .plan .threads) (m .slots) (m .wakes)) x (asleep u)) (w .2 .ensures ∙ ap (λ u. u + 1) (w .1 .ensures)))
+          (w .5 .ensures)
           refl refl refl
           none'
           refl;

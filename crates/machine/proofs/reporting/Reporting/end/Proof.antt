@@ -28,19 +28,18 @@ admitted : {m : Machine} {x rule : ℕ} → Asked m x 0 → rule ≡ freeRule (m
 admitted a e z = ends a (sym (end-rule a) ∙ sym e ∙ z)
 
 free-rule-requires : tie.Need-free-rule-requires
-free-rule-requires c κs = listed (facts (caller-asked (c .before .before .pre) .formed)) .counts .holds'
+free-rule-requires c κs = listed (facts (caller-asked (c .before .pre) .formed)) .counts .holds'
 
 placed-requires : tie.Need-placed-requires
 placed-requires c κs =
-    let d = c .before in
-    let k = d .before in
-    (caller-fits (admitted (caller-asked (k .before .before .before .pre)) (k .free-rule .ensures) (d .if1 .taken)), omega arith)
+    let k = c .before in
+    (caller-fits (admitted (caller-asked (k .before .before .pre)) (k .free-rule .ensures) (c .if1 .taken)), omega arith)
 
 without-requires : tie.Need-without-requires
-without-requires c κs = listed (facts (caller-asked (c .before .before .before .before .before .before .before .pre) .formed)) .counts .queue'
+without-requires c κs = listed (facts (caller-asked (c .before .before .before .before .pre) .formed)) .counts .queue'
 
 abbrev start : tie.Joined1 → tie.Start
-start c = c .before .before .before .before
+start c = c .before .before .before
 
 -- what is left before the Switch: the caller may end, or a rule is broken. Last in each way stands the machine.
 made : (c : tie.Joined1) {rs : Reports} → owed rs ≡ [] → Makes (c .if1 .m) rs (c .before .free-rule .result) (start c .args .self .machine) records.End
@@ -54,13 +53,13 @@ made c none' =
     ⊎-elim
     (λ w.
     let r = admitted a (k .free-rule .ensures) (w .0 .taken) in
-    admits e (by r end) (w .0 .taken) (w .5) refl
+    admits e (by r end) (w .0 .taken) (w .3) refl
     (record {
       plan' = refl;
       seen =
           alike refl
-          (ap (λ (k : Slots). conditionsOf (m .plan .threads) k (m .wakes)) (w .2 .ensures) ∙ placed-seen (m .plan .threads) (m .slots) (m .wakes) (s .args .self .chosen) 0 (omega arith))
-          (w .4 .ensures)
+          (ap (λ (k : Slots). conditionsOf (m .plan .threads) k (m .wakes)) (w .1 .ensures) ∙ placed-seen (m .plan .threads) (m .slots) (m .wakes) (s .args .self .chosen) 0 (omega arith))
+          (w .2 .ensures)
           refl refl refl
           none'
           refl;

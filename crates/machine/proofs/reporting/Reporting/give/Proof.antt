@@ -116,10 +116,10 @@ known : (s : tie.Start) → Facts (s .args .self .machine)
 known s = facts (give-asked (s .pre) .asked .formed)
 
 give-rule-requires : tie.Need-give-rule-requires
-give-rule-requires c κs = listed (known (c .before .before .before .before .before .before)) .counts .holds'
+give-rule-requires c κs = listed (known (c .before .before .before)) .counts .holds'
 
 abbrev start : tie.After-give-rule → tie.Start
-start c = c .before .before .before .before .before .before .before
+start c = c .before .before .before .before
 
 -- where no rule is broken, what the rules of Give say holds
 granted : (c : tie.Then1) → (let s = start (c .before) in Gives (s .args .self .machine) (s .args .self .chosen) (s .args .section))
@@ -155,22 +155,22 @@ heir-below c =
     heir-fits (s .args .self .machine) (known s) (h .find-heir .result .who) (h .find-heir .ensures .0) (free-heir c)
 
 wanted-requires : tie.Need-wanted-requires
-wanted-requires c κs = heir-below (c .before)
+wanted-requires c κs = heir-below c
 
 push-requires : tie.Need-push-requires
 push-requires c κs =
-    let t = c .before .before in
+    let t = c .before in
     (left-room (t .before .before), omega (arith, c .wanted .ensures), heir-below t)
 
 without-requires-2 : tie.Need-without-requires-2
-without-requires-2 c κs = listed (known (start (c .before .before .before .before .before .before .before))) .counts .waits'
+without-requires-2 c κs = listed (known (start (c .before .before .before .before .before .before))) .counts .waits'
 
 placed-requires : tie.Need-placed-requires
-placed-requires c κs = (heir-below (c .before .before .before .before), omega arith)
+placed-requires c κs = (heir-below (c .before .before .before), omega arith)
 
 push-requires-2 : tie.Need-push-requires-2
 push-requires-2 c κs =
-    let t = c .before .before .before .before .before .before in
+    let t = c .before .before .before .before in
     let h = t .before in
     let s = start (h .before .before .before) in
     let f = known s in
@@ -199,7 +199,7 @@ made c =
     let a = give-asked (s .pre) in
     let f = known s in
     let q = r .give-rule .ensures ∙ give-rule a in
-    let none' = r .before .before .before .before .before .none .ensures in
+    let none' = r .before .before .none .ensures in
     ⊎-elim
     (λ v.
     let g = gives a (sym q ∙ v .0 .taken) in
@@ -211,19 +211,19 @@ made c =
     (λ w.
     let d = somebody m f t (e .0) (s .args .ceilings .now) (held (v .1 .result)) (e .1) (w .0 .taken) in
     let o = named (heirIn m) t (is-heir m f t (e .0)) d in
-    rw (w .9, w .11)
+    rw (w .7, w .9)
     (record {
       plan' = refl;
       seen =
           won-seen (planOf m) x n (idle m) t o
           (tested m (s .args .ceilings .now) f (s .pre .asks .ceilings') t o left (v .2 .result .free) true (e .1) (w .0 .taken))
           (alike refl
-          (ap (λ (k : Slots). conditionsOf (m .plan .threads) k (m .wakes)) (w .5 .ensures) ∙ placed-seen (m .plan .threads) (m .slots) (m .wakes) t 1 (omega arith))
-          (w .7 .ensures)
-          (w .3 .ensures ∙ ap₂ (λ (k : ℕ) (hs : List Hold). hold k t ∷ hs) (w .2 .ensures ∙ wants-is m f t (e .0) d) left)
-          (w .4 .ensures)
+          (ap (λ (k : Slots). conditionsOf (m .plan .threads) k (m .wakes)) (w .4 .ensures) ∙ placed-seen (m .plan .threads) (m .slots) (m .wakes) t 1 (omega arith))
+          (w .5 .ensures)
+          (w .2 .ensures ∙ ap₂ (λ (k : ℕ) (hs : List Hold). hold k t ∷ hs) (w .1 .ensures ∙ wants-is m f t (e .0) d) left)
+          (w .3 .ensures)
           refl
-          (told (c .making .ensures) (v .5 ∙ w .10) (w .8 .ensures))
+          (told (c .making .ensures) (v .5 ∙ w .8) (w .6 .ensures))
           refl);
     }))
     (⊎-elim

@@ -24,9 +24,8 @@ use Rattle.machine.proofs.reporting.Reporting.heard.Tie as tie
 
 in-order-requires : tie.Need-in-order-requires
 in-order-requires c κs =
-    let s = c .before in
-    let q = s .args .self in
-    facts (unowed (q .machine) (reportAt q) (q .due) (q .given) (s .pre .formed')) .arming
+    let q = c .args .self in
+    facts (unowed (q .machine) (reportAt q) (q .due) (q .given) (c .pre .formed')) .arming
 
 -- no broken rule is 31's
 in-place : (b : Bool) (n : ℕ) → cond b n 31 ≡ 0 → T b
@@ -42,7 +41,7 @@ in-array c a o size h =
 -- in its place something is due
 first-requires : tie.Need-first-requires
 first-requires c κs =
-    let s = c .before .before .before in
+    let s = c .before .before in
     let o = from-true (inPlace (s .args .self .machine) (s .args .kind)) (sym (c .before .in-order .ensures) ∙ c .if1 .taken) in
     in-array (s .args .self) (s .pre) o (reporting-size (s .args .self) (s .good .0))
 
@@ -50,10 +49,10 @@ due-rule-requires : tie.Need-due-rule-requires
 due-rule-requires c κs = tt
 
 -- the rule, on each way
-is-rule : (c : tie.Joined1) → (let a = c .before .before .before .args in c .if1 .rule ≡ cond (inPlace (a .self .machine) (a .kind)) (dueRule (reportAt (a .self) (a .self .given)) (a .kind) (a .operand)) 31)
+is-rule : (c : tie.Joined1) → (let a = c .before .before .args in c .if1 .rule ≡ cond (inPlace (a .self .machine) (a .kind)) (dueRule (reportAt (a .self) (a .self .given)) (a .kind) (a .operand)) 31)
 is-rule c =
     let k = c .before in
-    let a = k .before .before .args in
+    let a = k .before .args in
     let due : ℕ = dueRule (reportAt (a .self) (a .self .given)) (a .kind) (a .operand) in
     ⊎-elim
     (λ w. w .3 ∙ w .2 .ensures ∙ ap (λ (d : Report). dueRule d (a .kind) (a .operand)) (w .1 .ensures) ∙ ap (λ b. cond b due 31) (sym (w .0 .taken) ∙ k .in-order .ensures))
@@ -61,9 +60,9 @@ is-rule c =
     (c .if1 .came)
 
 -- where no rule is broken the record is in its place, so something is due
-due-here : (c : tie.Then2) → (let a = c .before .before .before .before .args in a .self .given < a .self .due)
+due-here : (c : tie.Then2) → (let a = c .before .before .before .args in a .self .given < a .self .due)
 due-here c =
-    let s = c .before .before .before .before in
+    let s = c .before .before .before in
     let q = s .args .self in
     s .pre .due' (in-place (inPlace (q .machine) (s .args .kind)) (dueRule (reportAt q (q .given)) (s .args .kind) (s .args .operand)) (sym (is-rule (c .before)) ∙ c .if2 .taken))
 
@@ -89,7 +88,7 @@ returns : tie.Need-returns
 returns c =
     let t = c .before .before in
     let j = t .before in
-    let a = j .before .before .before .args in
+    let a = j .before .before .args in
     hears (a .self) (a .kind) (a .operand) (is-rule j) (t .if2 .taken) (a .operand % 256)
     (sym (ap (λ b. cond b (a .operand % 256) (a .self .machine .reported)) (eq-eqb (a .kind) 17 (c .before .if3 .taken))))
 
@@ -97,12 +96,12 @@ returns-2 : tie.Need-returns-2
 returns-2 c =
     let t = c .before in
     let j = t .before in
-    let a = j .before .before .before .args in
+    let a = j .before .before .args in
     hears (a .self) (a .kind) (a .operand) (is-rule j) (t .if2 .taken) (a .self .machine .reported)
     (sym (ap (λ b. cond b (a .operand % 256) (a .self .machine .reported)) (ne-eqb (a .kind) 17 (c .if3 .left))))
 
 returns-3 : tie.Need-returns-3
-returns-3 c = let j = c .before in let a = j .before .before .before .args in bars (a .self) (a .kind) (a .operand) (is-rule j) (c .if2 .left)
+returns-3 c = let j = c .before in let a = j .before .before .args in bars (a .self) (a .kind) (a .operand) (is-rule j) (c .if2 .left)
 
 pub heard-spec : {M : Type 1} → statement M
 heard-spec = tie.close (tie.spec in-order-requires first-requires due-rule-requires add-c cast-who returns returns-2 returns-3)

@@ -3,7 +3,7 @@ use Rattle.machine.proofs.reporting.Reporting.quieted.Statement.{statem
 use Rattle.machine.proofs.reporting.Reporting.quieted.Tie as tie
 
 next-event-requires : tie.Need-next-event-requires
-next-event-requires c κs = c .before .before .before .pre
+next-event-requires c κs = c .before .pre
 
 returns : tie.Need-returns
 returns c = rw (c .next-event .ensures)

@@ -62,17 +62,17 @@ run-rule-requires c κs = tt
 
 rivalled-of-requires : tie.Need-rivalled-of-requires
 rivalled-of-requires c κs =
-    let d = c .before .before .before .before .before in
+    let d = c .before in
     let k = d .before in
     let a = caller-asked (k .before .before .before .pre) in
     (listed (facts (a .formed)) .counts, caller-fits (admitted a (k .run-rule .ensures) (d .if1 .taken)))
 
 without-requires : tie.Need-without-requires
-without-requires c κs = listed (facts (caller-asked (c .before .before .before .before .before .before .before .before .before .before .before .pre) .formed)) .counts .queue'
+without-requires c κs = listed (facts (caller-asked (c .before .before .before .before .before .before .before .pre) .formed)) .counts .queue'
 
 push-requires : tie.Need-push-requires
 push-requires c κs =
-    let d = c .before .before .before .before .before .before .before .before in
+    let d = c .before .before .before .before in
     let k = d .before in
     let r = admitted (caller-asked (k .before .before .before .pre)) (k .run-rule .ensures) (d .if1 .taken) in
     (omega (arith, length-queued (c .without .result), ap length (c .without .ensures), without-room r), caller-fits r)
@@ -100,23 +100,23 @@ made c =
     ⊎-elim
     (λ w.
     let g = admitted a (k .run-rule .ensures) (w .0 .taken) in
-    let t = tested a (s .args .ceilings .now) (s .pre .asks .ceilings') (w .6 .result) true (caller-known g) (w .6 .ensures) (w .7 .taken) in
-    admits e (by g (relinquish (planOf m)) ∙ yields (planOf m) x (idle m) t) (w .0 .taken) (w .11) refl
+    let t = tested a (s .args .ceilings .now) (s .pre .asks .ceilings') (w .2 .result) true (caller-known g) (w .2 .ensures) (w .3 .taken) in
+    admits e (by g (relinquish (planOf m)) ∙ yields (planOf m) x (idle m) t) (w .0 .taken) (w .7) refl
     (record {
       plan' = refl;
       seen =
           alike refl refl
-          (w .9 .ensures ∙ ap (λ l. l ++ (x ∷ [])) (w .8 .ensures))
+          (w .5 .ensures ∙ ap (λ l. l ++ (x ∷ [])) (w .4 .ensures))
           refl refl refl
-          (told (c .making .ensures) (w .12) (w .10 .ensures))
+          (told (c .making .ensures) (w .8) (w .6 .ensures))
           refl;
     }))
     (⊎-elim
     (λ w.
     let g = admitted a (k .run-rule .ensures) (w .0 .taken) in
-    let t = tested a (s .args .ceilings .now) (s .pre .asks .ceilings') (w .6 .result) false (caller-known g) (w .6 .ensures) (w .7 .left) in
-    admits e (by g (relinquish (planOf m)) ∙ stays (planOf m) x (idle m) t) (w .0 .taken) (w .8) refl
-    (record { plan' = refl; seen = alike refl refl refl refl refl refl (told (c .making .ensures) (w .9) none') refl }))
+    let t = tested a (s .args .ceilings .now) (s .pre .asks .ceilings') (w .2 .result) false (caller-known g) (w .2 .ensures) (w .3 .left) in
+    admits e (by g (relinquish (planOf m)) ∙ stays (planOf m) x (idle m) t) (w .0 .taken) (w .4) refl
+    (record { plan' = refl; seen = alike refl refl refl refl refl refl (told (c .making .ensures) (w .5) none') refl }))
     (λ w. refuses e (w .0 .left) (w .1) refl (told (c .making .ensures) (w .2) none')))
     (j .if1 .came)
 

@@ -56,12 +56,12 @@ section-fits s = let a = take-asked (s .pre) in omega (arith, a .known, facts (a
 
 take-rule-requires : tie.Need-take-rule-requires
 take-rule-requires c κs =
-    let s = c .before .before .before .before .before .before in
+    let s = c .before .before .before .before in
     let f = facts (take-asked (s .pre) .asked .formed) in
     (f .fits .threads, listed f .counts .holds', section-fits s)
 
 abbrev start : tie.After-take-rule → tie.Start
-start c = c .before .before .before .before .before .before .before
+start c = c .before .before .before .before .before
 
 -- what is known of the machine that came
 known : (s : tie.Start) → Facts (s .args .self .machine)
@@ -96,13 +96,13 @@ one-requires : tie.Need-one-requires
 one-requires c κs = tt
 
 without-requires : tie.Need-without-requires
-without-requires c κs = listed (known (start (c .before .before .before .before .before))) .counts .queue'
+without-requires c κs = listed (known (start (c .before .before .before .before))) .counts .queue'
 
 waits-for-requires : tie.Need-waits-for-requires
-waits-for-requires c κs = let g = c .before .before .before .before .before .before in (caller-fits (granted g .runs), section-fits (start (g .before)))
+waits-for-requires c κs = let g = c .before .before .before .before in (caller-fits (granted g .runs), section-fits (start (g .before)))
 
 push-requires-2 : tie.Need-push-requires-2
-push-requires-2 c κs = let g = granted (c .before .before .before .before .before .before .before .before) .runs in (waits-room g, caller-fits g)
+push-requires-2 c κs = let g = granted (c .before .before .before .before .before) .runs in (waits-room g, caller-fits g)
 
 one-requires-2 : tie.Need-one-requires-2
 one-requires-2 c κs = tt
@@ -135,22 +135,22 @@ made c =
     }))
     (⊎-elim
     (λ w.
-    admits e (by (takes a (sym e ∙ w .0 .taken) .runs) (λ y. take (planOf m) y n)) (w .0 .taken) (w .11) refl
+    admits e (by (takes a (sym e ∙ w .0 .taken) .runs) (λ y. take (planOf m) y n)) (w .0 .taken) (w .8) refl
     (record {
       plan' = refl;
       seen =
           lost-seen (planOf m) x n (idle m)
           (above (w .1 .result) (w .2 .result) false (w .1 .ensures) (w .2 .ensures) (w .3 .left))
           (alike refl
-          (ap (λ (k : Slots). conditionsOf (m .plan .threads) k (m .wakes)) (w .7 .ensures) ∙ waits-seen (m .plan .threads) (m .slots) (m .wakes) x n (section-fits s))
-          (w .5 .ensures)
+          (ap (λ (k : Slots). conditionsOf (m .plan .threads) k (m .wakes)) (w .5 .ensures) ∙ waits-seen (m .plan .threads) (m .slots) (m .wakes) x n (section-fits s))
+          (w .4 .ensures)
           refl
-          (w .9 .ensures)
+          (w .6 .ensures)
           refl
-          (told (c .making .ensures) (w .12) (w .10 .ensures))
+          (told (c .making .ensures) (w .9) (w .7 .ensures))
           refl);
     }))
-    (λ w. refuses e (w .0 .left) (w .1) refl (told (c .making .ensures) (w .2) (r .before .before .before .before .before .none .ensures))))
+    (λ w. refuses e (w .0 .left) (w .1) refl (told (c .making .ensures) (w .2) (r .before .before .before .none .ensures))))
     (j .if1 .came)
 
 chosen-requires : tie.Need-chosen-requires
