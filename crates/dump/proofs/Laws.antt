@@ -14,6 +14,8 @@ use Rattle.dump.specs.Questions.{kindAllowed, operandFits, hasKinds, has
 use Rattle.dump.proofs.Answers as answers
 -- a question that refuses a plan or what is behind it, by the number answered; which one refuses bytes longer than any N allows; none is above 8
 pub use Rattle.dump.proofs.Refusals.{Refused, by-plan, by-list, read-refusal, refused-plan, refused-list, tooLong, too-long, refusal-within}
+-- the running place: at every record 2 + N plus twice its number, and moved on by two the next one's
+pub use Rattle.dump.proofs.Running.{running-place, running-next}
 -- numbers in two bytes
 pub use Rattle.dump.proofs.Words.{Stands}
 -- one record, its kind and its operand, each way and back

@@ -2,6 +2,7 @@
 mod Ranges
 mod Operands
 mod Asking
+mod Running
 mod Answers
 mod Refusals
 mod Words

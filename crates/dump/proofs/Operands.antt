@@ -1,7 +1,7 @@
 -- Bounds that admit just the operands that fit: the shapes that they have, and a table of them.
 use mathlib.Core.Path.{_≡_, sym, subst, _∙_}
 use mathlib.Core.Logic.{_⊎_, inl, inr, _≢_}
-use mathlib.Core.Bool.{Bool, false, not, cond, _||_, and-true, or-false}
+use mathlib.Core.Bool.{Bool, true, false, not, cond, _||_, and-true, or-false}
 use mathlib.Core.List.{List}
 use Prim.Native.Nat.{ℕ, _+_, _≤_, _<_, min}
 use native.Mathlib.Omega.{arith}
@@ -12,8 +12,7 @@ use lib.Seq.{getD-set-same, getD-set-other}
 use Rattle.model.proofs.Tests.{split, is-true, is-false, equal?}
 use Rattle.plan.specs.Bytes.{between}
 use Rattle.dump.specs.declared.questions.Bounds.{Bounds}
-use Rattle.dump.specs.Questions.{operandFits}
-use Rattle.dump.specs.Operands.{below, Exact, Tabled}
+use Rattle.dump.specs.Operands.{below, Exact, recordFits, Tabled}
 use Rattle.dump.proofs.Ranges.{beyond}
 
 -- from 0 on: an operand below a count, or else what is asked of one that is not
@@ -46,17 +45,18 @@ from-one n h = rw (lt-ltb n 65536 h, le-leb n 65535 (omega arith), and-true (leb
 pub any-word : Exact (below 65536) (λ n. leb n 65535)
 any-word n h = below-count 65536 n h ∙ lt-ltb n 65536 h ∙ sym (le-leb n 65535 (omega arith))
 
--- no operand fits a number beyond the kinds
-pub no-kind : (threads sections k n : ℕ) → 32 ≤ k → operandFits threads sections k n ≡ false
-no-kind threads sections k n h = rw (beyond 1 11 k (omega arith) (omega arith), beyond 16 22 k (omega arith) (omega arith))
+-- a number beyond the kinds is not allowed, so no operand fits it
+pub no-kind : (threads sections : ℕ) (callsOnly : Bool) (k n : ℕ) → 32 ≤ k → recordFits threads sections callsOnly k n ≡ false
+no-kind threads sections true k n h = rw (beyond 1 11 k (omega arith) (omega arith))
+no-kind threads sections false k n h = rw (beyond 1 11 k (omega arith) (omega arith), beyond 16 22 k (omega arith) (omega arith))
 
 -- one more kind's bounds in a table
-pub tabled : (threads sections k : ℕ) (table : List Bounds) (b : Bounds) → k < length table → Tabled threads sections k table → Exact b (operandFits threads sections k)
-    → Tabled threads sections (k + 1) (set table k b)
-tabled threads sections k table b h before exact j l = go (equal? j k)
+pub tabled : (threads sections : ℕ) (callsOnly : Bool) (k : ℕ) (table : List Bounds) (b : Bounds) → k < length table → Tabled threads sections callsOnly k table
+    → Exact b (recordFits threads sections callsOnly k) → Tabled threads sections callsOnly (k + 1) (set table k b)
+tabled threads sections callsOnly k table b h before exact j l = go (equal? j k)
   where
     Right : (kind : ℕ) → Bounds → Type 0
-    Right kind x = Exact x (operandFits threads sections kind)
+    Right kind x = Exact x (recordFits threads sections callsOnly kind)
 
     go : (j ≡ k) ⊎ (j ≢ k) → Right j (getD (set table k b) j (below 0))
     go (inl e) = rw e (subst (Right k) (sym (getD-set-same table k b (below 0) h)) exact)

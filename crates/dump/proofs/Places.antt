@@ -1,6 +1,6 @@
--- A reading place in a signature, and what it owns taken apart for a function that takes the dump and the number.
+-- A reading place in a signature, with a running place beside it, and what they own taken apart for a function that takes the dump and both numbers.
 use mathlib.Core.Path.{_≡_, refl}
-use Prim.Native.Nat.{_<_, _^_}
+use Prim.Native.Nat.{ℕ, _<_, _^_}
 use mathlib.Core.List.{List, [], _∷_}
 use lib.Dec.{T as Holds}
 use lib.ListN.{length}
@@ -54,11 +54,16 @@ dumpVal d = sliceVal (d .bytes .ptr) (length (d .bytes .now))
 abbrev pub OwnPlace : Lft → Place → Fml
 OwnPlace κ d = PlaceAt (κ, tt) .own d (T′.lowered d ∷ [])
 
--- what its dump and its number own, as two arguments
-abbrev pub OwnParts : Lft → Place → Fml
-OwnParts κ d = owns (ShrSlice (named 0) κ u8 ∷ usize ∷ []) (d .bytes, (d .number, tt)) (dumpVal d ∷ [], (vint w64 (d .number) ∷ [], tt))
+-- what it and a running place own, as two arguments
+abbrev pub OwnBoth : Lft → Place → ℕ → Fml
+OwnBoth κ d running = owns (PlaceAt (κ, tt) ∷ usize ∷ []) (d, (running, tt)) (T′.lowered d ∷ [], (vint w64 running ∷ [], tt))
 
-module _ {M : Type 1} (𝓤 : URA M) (H : Heap 𝓤) (A : Atoms 𝓤) (W : Given 𝓤 H A) (κ : Lft) (q : Share) (d : Place) where
+-- what its dump, its number and the running place own, as three
+abbrev pub OwnParts : Lft → Place → ℕ → Fml
+OwnParts κ d running =
+    owns (ShrSlice (named 0) κ u8 ∷ usize ∷ usize ∷ []) (d .bytes, (d .number, (running, tt))) (dumpVal d ∷ [], (vint w64 (d .number) ∷ [], (vint w64 running ∷ [], tt)))
+
+module _ {M : Type 1} (𝓤 : URA M) (H : Heap 𝓤) (A : Atoms 𝓤) (W : Given 𝓤 H A) (κ : Lft) (q : Share) (d : Place) (running : ℕ) where
   abbrev mach : Val
   mach = T′.lowered d
 
@@ -75,11 +80,12 @@ module _ {M : Type 1} (𝓤 : URA M) (H : Heap 𝓤) (A : Atoms 𝓤) (W : Given
   token = sep 𝓤 (A .lft κ q) (sem 𝓤 H A ftrue)
 
   -- A place is Copy: one copy stays whole, and the other gives what its parts own.
-  pub apart : d .number < 2 ^ 64 → ent 𝓤 (sep 𝓤 token (sem 𝓤 H A (owns (PlaceAt (κ, tt) ∷ []) (d, tt) (mach ∷ [], tt)))) (sep 𝓤 (sep 𝓤 token (sem 𝓤 H A (OwnParts κ d))) (sem 𝓤 H A (OwnPlace κ d)))
-  apart fits =
-      qed W ((‵ (flft κ q) ⊛ ‵ ftrue) ∷ ‵ (owns (PlaceAt (κ, tt) ∷ []) (d, tt) (mach ∷ [], tt)) ∷ []) ∵
+  pub apart : d .number < 2 ^ 64 → running < 2 ^ 64 → ent 𝓤 (sep 𝓤 token (sem 𝓤 H A (OwnBoth κ d running))) (sep 𝓤 (sep 𝓤 token (sem 𝓤 H A (OwnParts κ d running))) (sem 𝓤 H A (OwnPlace κ d)))
+  apart fits fits′ =
+      qed W ((‵ (flft κ q) ⊛ ‵ ftrue) ∷ ‵ (OwnBoth κ d running) ∷ []) ∵
       move ! (1 ∷ []) $ fsplit ! $ move ! (1 ∷ []) $ drop ! $ use1 W (‵ (OwnPlace κ d) ⊛ ‵ (OwnPlace κ d)) (LL.copy D (T′.the-copy (namedLft 1 0 tt (κ, tt))) 𝓤 H A W .twice d (mach ∷ [])) $ split ! $
       use1 W (given (mach ∷ [] ≡ mach ∷ []) (‵ (all-own (D .parts) L vd))) (own-open 𝓤 H A W D L vd mach) $ learn ! (λ _. use1 W (‵ (ownAt (D .parts) L 0 (d .bytes)) ⊛ ‵ (rest (D .parts) L 0 vd)) (own-out 𝓤 H A W (D .parts) L 0 vd) $ split ! $
       -- [what the dump owns; what the number owns; what the place owns; the token]
-      move ! (1 ∷ []) $ drop ! $ nothing ! $ owned ! usize (Is usize) (uint-makes 𝓤 H A W w64) (d .number) _ (refl, fits) $ fjoin ! $ move ! (1 ∷ 0 ∷ []) $ fjoin ! $
+      move ! (1 ∷ []) $ drop ! $ nothing ! $ owned ! usize (Is usize) (uint-makes 𝓤 H A W w64) running _ (refl, fits′) $ fjoin ! $
+      owned ! usize (Is usize) (uint-makes 𝓤 H A W w64) (d .number) _ (refl, fits) $ fjoin ! $ move ! (1 ∷ 0 ∷ []) $ fjoin ! $
       move ! (2 ∷ 0 ∷ []) $ join ! $ frame ! $ done !)

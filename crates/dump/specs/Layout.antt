@@ -1,7 +1,7 @@
 -- The dump and the call list, in the order of the papers. A byte past the end counts as 0.
 use mathlib.Core.Bool.{cond}
 use mathlib.Core.List.{List, [], _∷_, _++_, map}
-use Prim.Native.Nat.{ℕ, _+_, _*_, _-_, _/_, _%_}
+use Prim.Native.Nat.{ℕ, zero, suc, _+_, _*_, _-_, _/_, _%_}
 use lib.Dec.{eqb}
 use lib.ListN.{length}
 use Rattle.model.specs.Searches.{countFrom, upTo}
@@ -19,6 +19,11 @@ kindAt bytes i = byte bytes (2 + i)
 -- N operands of two bytes, low byte first
 abbrev pub operandAt : List ℕ → (i : ℕ) → ℕ
 operandAt bytes i = word bytes (2 + recordCount bytes + 2 * i)
+
+-- Document 02's running place, of n records at record i: it starts behind the kinds and moves on by two.
+abbrev pub runningPlace : (n i : ℕ) → ℕ
+runningPlace n zero = 2 + n
+runningPlace n (suc i) = runningPlace n i + 2
 
 -- the record of a kind with an operand; which kinds there are is question 7, and any other number is read as the last of them
 abbrev pub recordOf : (kind operand : ℕ) → Record

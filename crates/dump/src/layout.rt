@@ -2,8 +2,8 @@
 ghost use mathlib.Core.Path.{_≡_};
 ghost use Prim.Native.Nat.{_≤_, _<_};
 ghost use lib.ListN.{length};
-ghost use Rattle.dump.specs.Layout.{recordCount, kindAt, operandAt};
-ghost use Rattle.dump.specs.Questions.{Whole};
+ghost use Rattle.dump.specs.Layout.{recordCount, kindAt, runningPlace};
+ghost use Rattle.dump.specs.Questions.{mostRecords, Whole};
 use plan::words::word_at;
 
 // A record's two numbers.
@@ -28,10 +28,10 @@ pub fn kind_at(bytes: &[u8], i: usize) -> u8
     bytes[2 + i]
 }
 
-// The operand of record i, where there are n.
-pub fn operand_at(bytes: &[u8], n: usize, i: usize) -> u16
-    requires { ⌜ Whole (now bytes) × (n ≡ recordCount (now bytes)) × (i < n) ⌝ }
-    ensures { λ r. ⌜ r ≡ operandAt (now (bytes .entry)) i ⌝ }
+// Where the operands of n records begin: the running place (document 02) at record 0, which moves on by two for each record.
+pub fn first_operand(n: usize) -> usize
+    requires { ⌜ n ≤ mostRecords ⌝ }
+    ensures { λ r. ⌜ r ≡ runningPlace n 0 ⌝ }
 {
-    word_at(bytes, 2 + n + 2 * i)
+    2 + n
 }

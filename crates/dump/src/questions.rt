@@ -1,13 +1,15 @@
 // Questions 5 to 8.
 ghost use mathlib.Core.Path.{_≡_};
+ghost use mathlib.Core.Bool.{_&&_};
 ghost use Prim.Native.Nat.{_≤_};
 ghost use lib.ListN.{length};
 ghost use Rattle.plan.specs.Bytes.{between, number};
 ghost use Rattle.dump.specs.Questions.{kindAllowed, callFits, reportFits, operandFits, hasCount, hasLength, hasKinds, hasOperands, refusal, Whole};
-ghost use Rattle.dump.specs.Operands.{below, admits, Exact, Tabled};
+ghost use Rattle.dump.specs.Operands.{below, admits, Exact, recordFits, Tabled};
+use crate::layout::first_operand;
 use crate::layout::kind_at;
-use crate::layout::operand_at;
 use crate::layout::record_count;
+use crate::place::entry_at;
 use clock::timers::TIMERS;
 
 // The greatest number of records.
@@ -116,15 +118,26 @@ pub fn operand_fits(threads: usize, sections: usize, kind: u8, operand: u16) -> 
     bounds_of(threads, sections, kind).admits(operand)
 }
 
-// The bounds of the kinds below 32, in their order, to be made once for all records.
-fn bounds_table(threads: usize, sections: usize) -> [Bounds; 32]
-    ensures { λ r. ⌜ Tabled threads sections 32 r ⌝ }
+// What passes questions 7 and 8 of a record, by its kind: a kind that is not allowed admits no operand.
+fn bounds_for(threads: usize, sections: usize, list: bool, kind: u8) -> Bounds
+    ensures { λ r. ⌜ Exact r (recordFits threads sections list kind) ⌝ }
+{
+    if kind_allowed(list, kind) {
+        bounds_of(threads, sections, kind)
+    } else {
+        Bounds::below(0)
+    }
+}
+
+// These bounds of the kinds below 32, in their order, to be made once for all records.
+fn bounds_table(threads: usize, sections: usize, list: bool) -> [Bounds; 32]
+    ensures { λ r. ⌜ Tabled threads sections list 32 r ⌝ }
 {
     let none = Bounds::below(0);
     let mut table = [none; 32];
     let mut k: usize = 0;
     while k < 32 {
-        let b = bounds_of(threads, sections, k as u8);
+        let b = bounds_for(threads, sections, list, k as u8);
         table[k] = b;
         k += 1;
     }
@@ -166,29 +179,33 @@ fn has_kinds(list: bool, bytes: &[u8]) -> bool
     true
 }
 
-// 8: Is every operand allowed for its kind? The table is asked, and not the kind: the kinds of a dump follow no pattern, and a branch on
-// them is often guessed wrong.
-fn has_operands(threads: usize, sections: usize, bytes: &[u8]) -> bool
+// 7 and 8 in one pass: is every kind allowed, and every operand for its kind? The table is asked, and not the kind: the kinds of a dump follow
+// no pattern, and a branch on them is often guessed wrong.
+fn has_records(threads: usize, sections: usize, list: bool, bytes: &[u8]) -> bool
     requires { ⌜ Whole (now bytes) ⌝ }
-    ensures { λ r. ⌜ r ≡ hasOperands threads sections (now (bytes .entry)) ⌝ }
+    ensures { λ r. ⌜ r ≡ hasKinds list (now (bytes .entry)) && hasOperands threads sections (now (bytes .entry)) ⌝ }
 {
     let n = record_count(bytes);
-    let table = bounds_table(threads, sections);
+    let table = bounds_table(threads, sections, list);
     let mut i: usize = 0;
+    let mut running: usize = first_operand(n);
     while i < n {
-        let k = kind_at(bytes, i) as usize;
+        let e = entry_at(bytes, i, running);
+        let k = e.kind as usize;
         if 32 <= k {
             return false;
         }
-        if !table[k].admits(operand_at(bytes, n, i)) {
+        if !table[k].admits(e.operand) {
             return false;
         }
         i += 1;
+        running += 2;
     }
     true
 }
 
-// Questions 5 to 8: the number of the first No, 0 if there is none. Rules out refusing all, and naming a later No.
+// Questions 5 to 8: the number of the first No, 0 if there is none. Where a record fails 7 or 8, all are asked 7 before 8 is answered. Rules
+// out refusing all, and naming a later No.
 pub fn refusal(threads: usize, sections: usize, list: bool, bytes: &[u8]) -> u8
     ensures { λ r. ⌜ r ≡ number (refusal threads sections list (now (bytes .entry))) ⌝ }
 {
@@ -198,11 +215,11 @@ pub fn refusal(threads: usize, sections: usize, list: bool, bytes: &[u8]) -> u8
     if !has_length(bytes) {
         return 6;
     }
+    if has_records(threads, sections, list, bytes) {
+        return 0;
+    }
     if !has_kinds(list, bytes) {
         return 7;
     }
-    if !has_operands(threads, sections, bytes) {
-        return 8;
-    }
-    0
+    8
 }

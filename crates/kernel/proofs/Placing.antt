@@ -31,106 +31,123 @@ by-place P n a b kinds lows highs (suc (suc j)) h = go (split (ltb j n))
     go (inl t) = let z : 2 + j ≡ suc (suc j) = omega arith in subst P z (kinds j (ltb→lt j n t))
     go (inr t) = operand (nltb→le j n t) (equal? ((j - n) % 2) 0)
 
+-- not at the kind of record i, nor at its operand, with this running place
+record Apart (i running j : ℕ) : Type 0 where
+  kind : j ≢ 2 + i
+  low : j ≢ running
+  high : j ≢ running + 1
+
+-- the record stands at these places as record i
+record Put (i running : ℕ) (r : Record) (out : List ℕ) : Type 0 where
+  kind : byte out (2 + i) ≡ kindOf r
+  operand : Stands out running (operandOf r)
+
+module _ (i at k x : ℕ) (out : List ℕ) where
+  put-size : length (recordPut i at k x out) ≡ length out
+  put-size = simp length-set
+
+  put-elsewhere : (j : ℕ) → Apart i at j → byte (recordPut i at k x out) j ≡ byte out j
+  put-elsewhere j a =
+      getD-set-other (set (set out (2 + i) k) at (x % 256)) (at + 1) j (x / 256) 0 (a .high)
+      ∙ getD-set-other (set out (2 + i) k) at j (x % 256) 0 (a .low)
+      ∙ getD-set-other out (2 + i) j k 0 (a .kind)
+
+put-there : (i at : ℕ) (r : Record) (out : List ℕ) → 2 + i < at → at + 1 < length out → Put i at r (recordPut i at (kindOf r) (operandOf r) out)
+put-there i at r out h room =
+    record {
+      kind =
+          getD-set-other two (at + 1) (2 + i) (x / 256) 0 (λ e. omega arith)
+          ∙ getD-set-other one at (2 + i) (x % 256) 0 (λ e. omega arith)
+          ∙ getD-set-same out (2 + i) k 0 (omega arith);
+      operand =
+          record {
+            low =
+                getD-set-other two (at + 1) at (x / 256) 0 (λ e. omega arith)
+                ∙ getD-set-same one at (x % 256) 0 (simp length-set (omega arith));
+            high = getD-set-same two (at + 1) (x / 256) 0 (simp length-set (omega arith));
+          };
+    }
+  where
+    k : ℕ
+    k = kindOf r
+
+    x : ℕ
+    x = operandOf r
+
+    one : List ℕ
+    one = set out (2 + i) k
+
+    two : List ℕ
+    two = set one at (x % 256)
+
+-- records from i on
+
+pub from-size : (rs : List Record) (i at : ℕ) (out : List ℕ) → length (recordsPut i at rs out) ≡ length out
+from-size [] i at out = refl
+from-size (r ∷ rs) i at out = from-size rs (i + 1) (at + 2) (recordPut i at (kindOf r) (operandOf r) out) ∙ put-size i at (kindOf r) (operandOf r) out
+
+-- of n records
 module _ (n : ℕ) where
-  -- none of the places of record i
-  record Apart (i j : ℕ) : Type 0 where
-    kind : j ≢ 2 + i
-    low : j ≢ 2 + n + 2 * i
-    high : j ≢ 2 + n + 2 * i + 1
+  -- the running place of record a
+  abbrev Runs : (a at : ℕ) → Type 0
+  Runs a at = at ≡ 2 + n + 2 * a
 
-  -- the record stands at its places as record i
-  record Put (i : ℕ) (r : Record) (out : List ℕ) : Type 0 where
-    kind : byte out (2 + i) ≡ kindOf r
-    operand : Stands out (2 + n + 2 * i) (operandOf r)
+  -- no place of a record from i on
+  abbrev Beside : (i j : ℕ) → Type 0
+  Beside i j = (a at : ℕ) → i ≤ a → a < n → Runs a at → Apart a at j
 
-  module _ (i k x : ℕ) (out : List ℕ) where
-    pub put-size : length (recordPut n i k x out) ≡ length out
-    put-size = simp length-set
+  from-elsewhere : (rs : List Record) (i at : ℕ) (out : List ℕ) → Runs i at → i + length rs ≤ n → (j : ℕ) → Beside i j → byte (recordsPut i at rs out) j ≡ byte out j
+  from-elsewhere [] i at out e h j f = refl
+  from-elsewhere (r ∷ rs) i at out e h j f =
+      from-elsewhere rs (i + 1) (at + 2) (recordPut i at (kindOf r) (operandOf r) out) (omega arith) (omega arith) j (λ a b c. f a b (omega arith))
+      ∙ put-elsewhere i at (kindOf r) (operandOf r) out j (f i at (omega arith) (omega arith) e)
 
-    put-elsewhere : (j : ℕ) → Apart i j → byte (recordPut n i k x out) j ≡ byte out j
-    put-elsewhere j a =
-        getD-set-other (set (set out (2 + i) k) (2 + n + 2 * i) (x % 256)) (2 + n + 2 * i + 1) j (x / 256) 0 (a .high)
-        ∙ getD-set-other (set out (2 + i) k) (2 + n + 2 * i) j (x % 256) 0 (a .low)
-        ∙ getD-set-other out (2 + i) j k 0 (a .kind)
-
-  put-there : (i : ℕ) (r : Record) (out : List ℕ) → i < n → bytesFor n ≤ length out → Put i r (recordPut n i (kindOf r) (operandOf r) out)
-  put-there i r out h room =
-      record {
-        kind =
-            getD-set-other two (2 + n + 2 * i + 1) (2 + i) (x / 256) 0 (λ e. omega arith)
-            ∙ getD-set-other one (2 + n + 2 * i) (2 + i) (x % 256) 0 (λ e. omega arith)
-            ∙ getD-set-same out (2 + i) k 0 (omega arith);
-        operand =
-            record {
-              low =
-                  getD-set-other two (2 + n + 2 * i + 1) (2 + n + 2 * i) (x / 256) 0 (λ e. omega arith)
-                  ∙ getD-set-same one (2 + n + 2 * i) (x % 256) 0 (simp length-set (omega arith));
-              high = getD-set-same two (2 + n + 2 * i + 1) (x / 256) 0 (simp length-set (omega arith));
-            };
-      }
-    where
-      k : ℕ
-      k = kindOf r
-
-      x : ℕ
-      x = operandOf r
-
-      one : List ℕ
-      one = set out (2 + i) k
-
-      two : List ℕ
-      two = set one (2 + n + 2 * i) (x % 256)
-
-  -- records from i on
-
-  pub from-size : (rs : List Record) (i : ℕ) (out : List ℕ) → length (recordsPut n i rs out) ≡ length out
-  from-size [] i out = refl
-  from-size (r ∷ rs) i out = from-size rs (i + 1) (recordPut n i (kindOf r) (operandOf r) out) ∙ put-size i (kindOf r) (operandOf r) out
-
-  from-elsewhere : (rs : List Record) (i : ℕ) (out : List ℕ) → i + length rs ≤ n → (j : ℕ) → ((a : ℕ) → i ≤ a → a < n → Apart a j) → byte (recordsPut n i rs out) j ≡ byte out j
-  from-elsewhere [] i out h j f = refl
-  from-elsewhere (r ∷ rs) i out h j f =
-      from-elsewhere rs (i + 1) (recordPut n i (kindOf r) (operandOf r) out) (omega arith) j (λ a b c. f a (omega arith) c)
-      ∙ put-elsewhere i (kindOf r) (operandOf r) out j (f i (omega arith) (omega arith))
-
-  from-there : (rs : List Record) (i : ℕ) (out : List ℕ) → i + length rs ≤ n → bytesFor n ≤ length out → (m : ℕ) → m < length rs → Put (i + m) (nth rs m) (recordsPut n i rs out)
-  from-there [] i out h room m l = absurd (omega arith)
-  from-there (r ∷ rs) i out h room zero l =
-      let out' = recordPut n i (kindOf r) (operandOf r) out in
+  from-there : (rs : List Record) (i at : ℕ) (out : List ℕ) → Runs i at → i + length rs ≤ n → bytesFor n ≤ length out
+      → (m : ℕ) → m < length rs → Put (i + m) (2 + n + 2 * (i + m)) (nth rs m) (recordsPut i at rs out)
+  from-there [] i at out e h room m l = absurd (omega arith)
+  from-there (r ∷ rs) i at out e h room zero l =
+      let out' = recordPut i at (kindOf r) (operandOf r) out in
+      let y : at ≡ 2 + n + 2 * (i + 0) = omega arith in
       let z : i ≡ i + 0 = omega arith in
-      let p = put-there i r out (omega arith) room in
-      let stays : (j : ℕ) → ((a : ℕ) → i + 1 ≤ a → a < n → Apart a j) → byte (recordsPut n (i + 1) rs out') j ≡ byte out' j = from-elsewhere rs (i + 1) out' (omega arith) in
-      subst (λ a. Put a r (recordsPut n (i + 1) rs out')) z
+      let p = put-there i at r out (omega arith) (omega arith) in
+      let stays : (j : ℕ) → Beside (i + 1) j → byte (recordsPut (i + 1) (at + 2) rs out') j ≡ byte out' j = from-elsewhere rs (i + 1) (at + 2) out' (omega arith) (omega arith) in
+      subst (λ b. Put (i + 0) b r (recordsPut (i + 1) (at + 2) rs out')) y
+      (subst (λ a. Put a at r (recordsPut (i + 1) (at + 2) rs out')) z
       (record {
-        kind = stays (2 + i) (λ a b c. record { kind = λ e. omega arith; low = λ e. omega arith; high = λ e. omega arith }) ∙ p .kind;
+        kind = stays (2 + i) (λ a b c d g. record { kind = λ q. omega arith; low = λ q. omega arith; high = λ q. omega arith }) ∙ p .kind;
         operand =
             record {
-              low = stays (2 + n + 2 * i) (λ a b c. record { kind = λ e. omega arith; low = λ e. omega arith; high = λ e. omega arith }) ∙ p .operand .low;
-              high = stays (2 + n + 2 * i + 1) (λ a b c. record { kind = λ e. omega arith; low = λ e. omega arith; high = λ e. omega arith }) ∙ p .operand .high;
+              low = stays at (λ a b c d g. record { kind = λ q. omega arith; low = λ q. omega arith; high = λ q. omega arith }) ∙ p .operand .low;
+              high = stays (at + 1) (λ a b c d g. record { kind = λ q. omega arith; low = λ q. omega arith; high = λ q. omega arith }) ∙ p .operand .high;
             };
-      })
-  from-there (r ∷ rs) i out h room (suc m) l =
-      let out' = recordPut n i (kindOf r) (operandOf r) out in
+      }))
+  from-there (r ∷ rs) i at out e h room (suc m) l =
+      let out' = recordPut i at (kindOf r) (operandOf r) out in
       let z : i + 1 + m ≡ i + suc m = omega arith in
-      subst (λ a. Put a (nth rs m) (recordsPut n (i + 1) rs out')) z
-      (from-there rs (i + 1) out' (omega arith) (omega (arith, put-size i (kindOf r) (operandOf r) out)) m (omega arith))
+      subst (λ a. Put a (2 + n + 2 * a) (nth rs m) (recordsPut (i + 1) (at + 2) rs out')) z
+      (from-there rs (i + 1) (at + 2) out' (omega arith) (omega arith) (omega (arith, put-size i at (kindOf r) (operandOf r) out)) m (omega arith))
 
-  -- first some, then those behind them
-  pub from-both : (a b : List Record) (i : ℕ) (out : List ℕ) → recordsPut n i (a ++ b) out ≡ recordsPut n (i + length a) b (recordsPut n i a out)
-  from-both [] b i out = let z : i ≡ i + 0 = omega arith in ap (λ j. recordsPut n j b out) z
-  from-both (r ∷ a) b i out =
-      let out' = recordPut n i (kindOf r) (operandOf r) out in
-      let z : i + 1 + length a ≡ i + suc (length a) = omega arith in
-      from-both a b (i + 1) out' ∙ ap (λ j. recordsPut n j b (recordsPut n (i + 1) a out')) z
+-- first some, then those behind them
+from-both : (a b : List Record) (i at : ℕ) (out : List ℕ) → recordsPut i at (a ++ b) out ≡ recordsPut (i + length a) (at + 2 * length a) b (recordsPut i at a out)
+from-both [] b i at out =
+    let y : at ≡ at + 2 * 0 = omega arith in
+    let z : i ≡ i + 0 = omega arith in
+    ap (λ j. recordsPut j at b out) z ∙ ap (λ t. recordsPut (i + 0) t b out) y
+from-both (r ∷ a) b i at out =
+    let out' = recordPut i at (kindOf r) (operandOf r) out in
+    let y : at + 2 + 2 * length a ≡ at + 2 * suc (length a) = omega arith in
+    let z : i + 1 + length a ≡ i + suc (length a) = omega arith in
+    from-both a b (i + 1) (at + 2) out' ∙ ap (λ j. recordsPut j (at + 2 + 2 * length a) b (recordsPut (i + 1) (at + 2) a out')) z
+    ∙ ap (λ t. recordsPut (i + suc (length a)) t b (recordsPut (i + 1) (at + 2) a out')) y
 
-  -- one more record is put behind those that stand already, and then some more
-  pub from-next : (i : ℕ) (done rs : List Record) (r : Record) (k x : ℕ) (start out out' out'' : List ℕ) → i ≡ length done → out ≡ recordsPut n 0 done start
-      → k ≡ kindOf r → x ≡ operandOf r → out' ≡ recordPut n i k x out → out'' ≡ recordsPut n (i + 1) rs out' → out'' ≡ recordsPut n 0 (done ++ r ∷ rs) start
-  from-next i done rs r k x start out out' out'' count before a b c d =
-      let z : i ≡ 0 + length done = omega arith in
-      d ∙ ap (recordsPut n (i + 1) rs) (c ∙ ap (λ y. recordPut n i y x out) a ∙ ap (λ y. recordPut n i (kindOf r) y out) b)
-      ∙ ap (λ j. recordsPut n j (r ∷ rs) out) z ∙ ap (recordsPut n (0 + length done) (r ∷ rs)) before
-      ∙ sym (from-both done (r ∷ rs) 0 start)
+-- one more record is put behind those that stand already, and then some more
+pub from-next : (i at first : ℕ) (done rs : List Record) (r : Record) (k x : ℕ) (start out out' out'' : List ℕ) → i ≡ length done → at ≡ first + 2 * length done → out ≡ recordsPut 0 first done start
+    → k ≡ kindOf r → x ≡ operandOf r → out' ≡ recordPut i at k x out → out'' ≡ recordsPut (i + 1) (at + 2) rs out' → out'' ≡ recordsPut 0 first (done ++ r ∷ rs) start
+from-next i at first done rs r k x start out out' out'' count place before a b c d =
+    let z : i ≡ 0 + length done = omega arith in
+    d ∙ ap (recordsPut (i + 1) (at + 2) rs) (c ∙ ap (λ y. recordPut i at y x out) a ∙ ap (λ y. recordPut i at (kindOf r) y out) b)
+    ∙ ap (λ j. recordsPut j at (r ∷ rs) out) z ∙ ap (λ t. recordsPut (0 + length done) t (r ∷ rs) out) place ∙ ap (recordsPut (0 + length done) (first + 2 * length done) (r ∷ rs)) before
+    ∙ sym (from-both done (r ∷ rs) 0 first start)
 
 -- N in two bytes, low byte first
 abbrev pub counted : ℕ → List ℕ → List ℕ
@@ -141,20 +158,20 @@ module _ (rs : List Record) (out : List ℕ) (room : bytesFor (length rs) ≤ le
   n = length rs
 
   abbrev filled : List ℕ
-  filled = recordsPut n 0 rs (counted n out)
+  filled = recordsPut 0 (2 + n) rs (counted n out)
 
   -- no record stands at N's places or behind the last operand
   beside : (j : ℕ) → (j < 2) ⊎ (bytesFor n ≤ j) → byte filled j ≡ byte (counted n out) j
-  beside j c = from-elsewhere n rs 0 (counted n out) (omega arith) j (λ a b d. apart a d c)
+  beside j c = from-elsewhere n rs 0 (2 + n) (counted n out) (omega arith) (omega arith) j (λ a at b d e. apart a at d e c)
     where
-      apart : (a : ℕ) → a < n → (j < 2) ⊎ (bytesFor n ≤ j) → Apart n a j
-      apart a d (inl l) = record { kind = λ e. omega arith; low = λ e. omega arith; high = λ e. omega arith }
-      apart a d (inr g) = record { kind = λ e. omega arith; low = λ e. omega arith; high = λ e. omega arith }
+      apart : (a at : ℕ) → a < n → Runs n a at → (j < 2) ⊎ (bytesFor n ≤ j) → Apart a at j
+      apart a at d e (inl l) = record { kind = λ q. omega arith; low = λ q. omega arith; high = λ q. omega arith }
+      apart a at d e (inr g) = record { kind = λ q. omega arith; low = λ q. omega arith; high = λ q. omega arith }
 
-  there : (i : ℕ) → i < n → Put n i (nth rs i) filled
+  there : (i : ℕ) → i < n → Put i (2 + n + 2 * i) (nth rs i) filled
   there i h =
       let z : 0 + i ≡ i = omega arith in
-      subst (λ a. Put n a (nth rs i) filled) z (from-there n rs 0 (counted n out) (omega arith) (simp length-set room) i h)
+      subst (λ a. Put a (2 + n + 2 * a) (nth rs i) filled) z (from-there n rs 0 (2 + n) (counted n out) (omega arith) (omega arith) (simp length-set room) i h)
 
   dumped : (j : ℕ) → j < bytesFor n → byte filled j ≡ byte (encode rs) j
   dumped =
@@ -178,7 +195,7 @@ module _ (rs : List Record) (out : List ℕ) (room : bytesFor (length rs) ≤ le
       rest = drop (bytesFor n) out
 
       size : length filled ≡ length out
-      size = from-size n rs 0 (counted n out) ∙ simp length-set
+      size = from-size rs 0 (2 + n) (counted n out) ∙ simp length-set
 
       at : (j : ℕ) → T (ltb j (bytesFor n)) ⊎ T (not (ltb j (bytesFor n))) → byte filled j ≡ byte (atFront rs out) j
       at j (inl t) =
@@ -192,5 +209,5 @@ module _ (rs : List Record) (out : List ℕ) (room : bytesFor (length rs) ≤ le
           ∙ sym (ap (λ i. byte out i) y) ∙ sym (getD-drop (bytesFor n) out (j - bytesFor n) 0)
           ∙ sym (getD-append-add (encode rs) rest (j - bytesFor n) 0) ∙ ap (λ i. byte (atFront rs out) i) z
 
-pub all-placed : (n : ℕ) (rs : List Record) (out : List ℕ) → n ≡ length rs → bytesFor n ≤ length out → recordsPut n 0 rs (counted n out) ≡ atFront rs out
-all-placed n rs out e room = ap (λ m. recordsPut m 0 rs (counted m out)) e ∙ dump-placed rs out (omega arith)
+pub all-placed : (n : ℕ) (rs : List Record) (out : List ℕ) → n ≡ length rs → bytesFor n ≤ length out → recordsPut 0 (2 + n) rs (counted n out) ≡ atFront rs out
+all-placed n rs out e room = ap (λ m. recordsPut 0 (2 + m) rs (counted m out)) e ∙ dump-placed rs out (omega arith)

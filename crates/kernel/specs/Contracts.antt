@@ -43,26 +43,27 @@ pub record Tallies (r : Counted) (rs : Option (List Record)) : Type 0 where
   pub admitted' : r .admitted ≡ isMade rs
   pub records' : r .records ≡ length (recordsOf rs)
 
--- record i of n, of this kind and operand, at its two places
-abbrev pub recordPut : (n i kind operand : ℕ) → List ℕ → List ℕ
-recordPut n i k x out = set (set (set out (2 + i) k) (2 + n + 2 * i) (x % 256)) (2 + n + 2 * i + 1) (x / 256)
+-- record i, of this kind and operand: its kind behind N, its operand at the running place
+abbrev pub recordPut : (i running kind operand : ℕ) → List ℕ → List ℕ
+recordPut i running k x out = set (set (set out (2 + i) k) running (x % 256)) (running + 1) (x / 256)
 
--- some records of n at their places, the first of them as record i
-abbrev pub recordsPut : (n i : ℕ) → List Record → List ℕ → List ℕ
-recordsPut n i [] out = out
-recordsPut n i (r ∷ rs) out = recordsPut n (i + 1) rs (recordPut n i (kindOf r) (operandOf r) out)
+-- some records, the first of them as record i
+abbrev pub recordsPut : (i running : ℕ) → List Record → List ℕ → List ℕ
+recordsPut i running [] out = out
+recordsPut i running (r ∷ rs) out = recordsPut (i + 1) (running + 2) rs (recordPut i running (kindOf r) (operandOf r) out)
 
--- a well-formed state, and room for its reports from record i on
-pub record ReportsFit (s : State) (n i : ℕ) (out : List ℕ) : Type 0 where
+-- a well-formed state, and room for the kinds and the operands of its reports from record i on
+pub record ReportsFit (s : State) (i running : ℕ) (out : List ℕ) : Type 0 where
   pub formed' : T (formed (planOf (s .machine)) (view s))
-  pub within : i + length (view s .due) ≤ n
-  pub room : bytesFor n ≤ length out
+  pub kinds : 2 + i + length (view s .due) ≤ length out
+  pub operands : running + 2 * length (view s .due) ≤ length out
 
 -- every report due is given, and stands at its place, the first as record i
-pub record Places (r : Placed) (s : State) (n i : ℕ) (before after : List ℕ) : Type 0 where
+pub record Places (r : Placed) (s : State) (i running : ℕ) (before after : List ℕ) : Type 0 where
   pub settles : Settles (r .state) s
   pub records' : r .records ≡ i + length (view s .due)
-  pub bytes : after ≡ recordsPut n i (map report (view s .due)) before
+  pub running' : r .running ≡ running + 2 * length (view s .due)
+  pub bytes : after ≡ recordsPut i running (map report (view s .due)) before
 
 -- every call is admitted, there are n records in all, and there is room for them
 pub record AllFit (rs : Option (List Record)) (n : ℕ) (out : List ℕ) : Type 0 where

@@ -3,6 +3,7 @@ ghost use lib.Dec.{T};
 ghost use Rattle.model.specs.Formed.{formed};
 ghost use Rattle.machine.specs.View.{planOf, view};
 ghost use Rattle.kernel.specs.Contracts.{Passed, Settles, Tallies, madeOf};
+use dump::layout::first_operand;
 use machine::state::State;
 use plan::Plan;
 use walk::single::step;
@@ -35,8 +36,9 @@ pub(crate) fn tally(plan: Plan, ceilings: &[u8; 16], list: &[u8], n: usize) -> C
     let mut who: u8 = 255;
     let mut records: usize = 0;
     let mut k: usize = 0;
+    let mut running: usize = first_operand(n);
     while k < n {
-        let o = step(s, ceilings, who, list, k);
+        let o = step(s, ceilings, who, list, k, running);
         let moved = o.state;
         if o.rule != 0 {
             return Counted {
@@ -48,6 +50,7 @@ pub(crate) fn tally(plan: Plan, ceilings: &[u8; 16], list: &[u8], n: usize) -> C
         s = settled(moved);
         who = o.chosen;
         k += 1;
+        running += 2;
     }
     if !s.is_complete() {
         return Counted {

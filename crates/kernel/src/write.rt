@@ -1,51 +1,55 @@
 // The records at their places in the output.
 ghost use mathlib.Core.Path.{_≡_};
-ghost use Prim.Native.Nat.{_≤_, _<_};
+ghost use Prim.Native.Nat.{_+_, _<_};
 ghost use lib.ListN.{length};
-ghost use Rattle.kernel.specs.Answers.{recordsOf, bytesFor, atFront};
+ghost use Rattle.kernel.specs.Answers.{recordsOf, atFront};
 ghost use Rattle.kernel.specs.Contracts.{Passed, madeOf, recordPut, ReportsFit, Places, AllFit};
+use dump::layout::first_operand;
 use dump::place::entry_at;
 use machine::state::State;
 use plan::Plan;
 use walk::single::step;
 
-// A state, and how many records are written.
+// A state, how many records are written, and the running place behind them.
 pub struct Placed {
     pub state: State,
     pub records: usize,
+    pub running: usize,
 }
 
-// Record i of n goes to its two places.
-fn put(out: &mut [u8], n: usize, i: usize, kind: u8, operand: u16)
-    requires { ⌜ (i < n) × (bytesFor n ≤ length (now out)) ⌝ }
-    ensures { λ _. ⌜ now (out .exit) ≡ recordPut n i kind operand (now (out .entry)) ⌝ }
+// Record i goes to its two places, the operand to the running place.
+fn put(out: &mut [u8], i: usize, running: usize, kind: u8, operand: u16)
+    requires { ⌜ (2 + i < length (now out)) × (running + 1 < length (now out)) ⌝ }
+    ensures { λ _. ⌜ now (out .exit) ≡ recordPut i running kind operand (now (out .entry)) ⌝ }
 {
-    let at = 2 + n + 2 * i;
     out[2 + i] = kind;
-    out[at] = (operand % 256) as u8;
-    out[at + 1] = (operand / 256) as u8;
+    out[running] = (operand % 256) as u8;
+    out[running + 1] = (operand / 256) as u8;
 }
 
 // The reports due, each given as it is written.
-fn put_reports(state: State, out: &mut [u8], n: usize, i: usize) -> Placed
-    requires { ⌜ ReportsFit state n i (now out) ⌝ }
-    ensures { λ r. ⌜ Places r state n i (now (out .entry)) (now (out .exit)) ⌝ }
+fn put_reports(state: State, out: &mut [u8], i: usize, running: usize) -> Placed
+    requires { ⌜ ReportsFit state i running (now out) ⌝ }
+    ensures { λ r. ⌜ Places r state i running (now (out .entry)) (now (out .exit)) ⌝ }
 {
     let mut s = state;
     let mut at: usize = i;
+    let mut to: usize = running;
     while 0 < s.due_count() {
         let r = s.first_due();
-        put(out, n, at, r.kind, r.operand);
+        put(out, at, to, r.kind, r.operand);
         s = s.delivered(r);
         at += 1;
+        to += 2;
     }
     Placed {
         state: s,
         records: at,
+        running: to,
     }
 }
 
-// The dump of calls that are all admitted, n records in all.
+// The dump of calls that are all admitted, n records in all. One running place goes over the list, one over the output.
 pub(crate) fn write(
     plan: Plan,
     ceilings: &[u8; 16],
@@ -61,17 +65,21 @@ pub(crate) fn write(
     out[1] = (n / 256) as u8;
     let mut s = State::fresh(plan);
     let mut who: u8 = 255;
-    let mut i: usize = 0;
     let mut k: usize = 0;
+    let mut from: usize = first_operand(calls);
+    let mut i: usize = 0;
+    let mut to: usize = first_operand(n);
     while k < calls {
-        let e = entry_at(list, k);
-        let o = step(s, ceilings, who, list, k);
-        put(out, n, i, e.kind, e.operand);
+        let e = entry_at(list, k, from);
+        let o = step(s, ceilings, who, list, k, from);
+        put(out, i, to, e.kind, e.operand);
         let moved = o.state;
-        let w = put_reports(moved, out, n, i + 1);
+        let w = put_reports(moved, out, i + 1, to + 2);
         s = w.state;
-        i = w.records;
         who = o.chosen;
         k += 1;
+        from += 2;
+        i = w.records;
+        to = w.running;
     }
 }

@@ -9,6 +9,7 @@ ghost use Rattle.live.specs.Watching.{isRule, refusal};
 ghost use Rattle.live.specs.Contracts.{Asked, seen, Begins, Tells};
 ghost use Rattle.live.specs.declared.live.Reply.the-variants as says;
 use clock::time::LAST_TICK;
+use dump::layout::first_operand;
 use dump::questions::kind_allowed;
 use dump::questions::operand_fits;
 use formed::formed::formed;
@@ -119,7 +120,7 @@ fn judged(state: State, kind: u8, operand: u16) -> Stepped
         }
     }
     let bytes = [1u8, 0, kind, (operand % 256) as u8, (operand / 256) as u8];
-    step(state, &all, who, &bytes, 0)
+    step(state, &all, who, &bytes, 0, first_operand(1))
 }
 
 // A record that moved the machine: the state after it, clean with the number due.

@@ -27,7 +27,7 @@ use Rattle.machine.specs.Contracts.{Fresh}
 use Rattle.machine.proofs.Laws.{ceilings-of}
 use Rattle.dump.specs.Layout.{recordCount, kindAt, operandAt, decode, part}
 use Rattle.dump.specs.Questions as dumps
-use Rattle.dump.specs.Questions.{operandFits}
+use Rattle.dump.specs.Questions.{mostRecords, operandFits}
 use Rattle.dump.proofs.Laws.{read-refusal, accepted, entry-passes, decode-length, part-all}
 use Rattle.walk.specs.declared.walk.Walked.{Walked}
 use Rattle.monitor.specs.Answers.{judged, check}
@@ -41,9 +41,12 @@ pub record Unrefused (plan dump : List ℕ) (p : Plan) : Type 0 where
   pub dump' : dumps.refusal (p .threads) (p .sections) false dump ≡ none
 
 module _ {plan dump : List ℕ} {p : Plan} (u : Unrefused plan dump p) where
-  -- N may be read
+  -- N may be read, and is small
   pub check-counts : 2 ≤ length dump
   check-counts = omega (arith, accepted (p .threads) (p .sections) false dump (u .dump') .0 .size)
+
+  pub check-few : {n : ℕ} → n ≡ recordCount dump → n ≤ mostRecords
+  check-few e = omega (arith, e, accepted (p .threads) (p .sections) false dump (u .dump') .0 .count)
 
   judges : check plan dump ≡ judged (judge (bytes.planOf plan) (decode dump))
   judges = unrefused-judged plan dump _ (u .plan') (sym (read-refusal plan (u .read) false dump) ∙ u .dump') refl

@@ -1,6 +1,7 @@
 // The whole check of a plan and a dump.
 ghost use mathlib.Core.Path.{_≡_};
 ghost use Rattle.monitor.specs.Answers.{answerOf, check};
+use dump::layout::first_operand;
 use dump::layout::record_count;
 use dump::questions;
 use machine::state::State;
@@ -31,7 +32,7 @@ pub fn check(plan: &[u8], dump: &[u8]) -> Verdict
     }
     let all = ceilings(p);
     let n = record_count(dump);
-    let w = walk(State::fresh(p), &all, 255, dump, 0, n);
+    let w = walk(State::fresh(p), &all, 255, dump, 0, first_operand(n), n);
     if w.rule != 0 {
         return Verdict::Breach(w.at, w.rule);
     }

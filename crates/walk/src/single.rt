@@ -1,5 +1,6 @@
 // A walk over one record: what the live step and the bench kernel take.
-ghost use Rattle.dump.specs.Layout.{recordAt};
+ghost use mathlib.Core.Path.{_≡_};
+ghost use Rattle.dump.specs.Layout.{recordCount, recordAt, runningPlace};
 ghost use Rattle.walk.specs.Contracts.{Single, Advances};
 use crate::walk::walk;
 use machine::state::State;
@@ -11,13 +12,20 @@ pub struct Stepped {
     pub rule: u8,
 }
 
-// What record i of a dump or call list does to the state, or the rule that it breaks: see model, Runs.step. The chosen thread comes and goes
-// beside the state, so that it is found once for each call.
-pub fn step(state: State, ceilings: &[u8; 16], chosen: u8, bytes: &[u8], i: usize) -> Stepped
-    requires { ⌜ Single state (now ceilings) chosen (now bytes) i ⌝ }
+// What record i of a dump or call list, with its running place, does to the state, or the rule that it breaks: see model, Runs.step. The chosen
+// thread comes and goes beside the state, so that it is found once for each call.
+pub fn step(
+    state: State,
+    ceilings: &[u8; 16],
+    chosen: u8,
+    bytes: &[u8],
+    i: usize,
+    running: usize,
+) -> Stepped
+    requires { ⌜ Single state (now ceilings) chosen (now bytes) i × (running ≡ runningPlace (recordCount (now bytes)) i) ⌝ }
     ensures { λ r. ⌜ Advances (r .state) (r .chosen) (r .rule) state (recordAt (now (bytes .entry)) i) ⌝ }
 {
-    let w = walk(state, ceilings, chosen, bytes, i, i + 1);
+    let w = walk(state, ceilings, chosen, bytes, i, running, i + 1);
     let after = w.state;
     Stepped {
         state: after,

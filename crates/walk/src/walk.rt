@@ -1,5 +1,7 @@
 // The one loop over records: the whole check walks over all of a dump, the bench kernel over one call of its list after another, a live step
 // over one record.
+ghost use mathlib.Core.Path.{_≡_};
+ghost use Rattle.dump.specs.Layout.{recordCount, runningPlace};
 ghost use Rattle.walk.specs.Contracts.{Walks, WalkEnds};
 use dump::place::entry_at;
 use dump::records::record_of;
@@ -15,16 +17,25 @@ pub struct Walked {
     pub rule: u8,
 }
 
-// Walks from one record to another until one breaks a rule: see model, Runs.run. The match over the record stands in the loop, so that each
+// Walks from one record, with its running place, to another until one breaks a rule: see model, Runs.run. The match over the record stands in the loop, so that each
 // call's method has one caller and no record costs a copy of the machine.
-pub fn walk(s: State, ceilings: &[u8; 16], who: u8, bytes: &[u8], from: usize, to: usize) -> Walked
-    requires { ⌜ Walks s (now ceilings) who (now bytes) from to ⌝ }
+pub fn walk(
+    s: State,
+    ceilings: &[u8; 16],
+    who: u8,
+    bytes: &[u8],
+    from: usize,
+    place: usize,
+    to: usize,
+) -> Walked
+    requires { ⌜ Walks s (now ceilings) who (now bytes) from to × (place ≡ runningPlace (recordCount (now bytes)) from) ⌝ }
     ensures { λ r. ⌜ WalkEnds r s (now (bytes .entry)) from to ⌝ }
 {
     let mut c = s.opened(who);
     let mut i: usize = from;
+    let mut running: usize = place;
     while i < to {
-        let e = entry_at(bytes, i);
+        let e = entry_at(bytes, i, running);
         if c.hears(e.kind) {
             c = c.heard(e.kind, e.operand);
         } else if e.kind == 7 && c.is_quiet() {
@@ -49,6 +60,7 @@ pub fn walk(s: State, ceilings: &[u8; 16], who: u8, bytes: &[u8], from: usize, t
             break;
         }
         i += 1;
+        running += 2;
     }
     Walked {
         state: c.closed(),

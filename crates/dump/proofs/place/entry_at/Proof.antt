@@ -35,7 +35,7 @@ use denote.Triple.Table.{entered, cited}
 use denote.Triple.Walked.{says, needs, Stays, stay-none, stay-none-slice, walkOf, goes-none, goes-none-slice, Walks, ends-at, walked, walk-meets}
 use denote.Exit.{yes}
 use denote.Triple.Clauses.{ensured, lasts}
-use Rattle.dump.specs.Layout.{recordCount, kindAt, operandAt}
+use Rattle.dump.specs.Layout.{recordCount, kindAt, operandAt, runningPlace}
 use Rattle.dump.specs.Questions.{Whole}
 use Rattle.dump.specs.declared.layout.Entry.{Entry}
 use Rattle.dump.specs.declared.place.Place.{Place}
@@ -58,22 +58,22 @@ use Rattle.dump.proofs.place.entry_at.Statement as stated
 use Rattle.dump.proofs.place.entry_at.Code as code
 
 abbrev stayed : Stays (entry-at.ended .signature .params) (entry-at.ended .kept)
-stayed = (stay-none-slice (0 ∷ []) tt (plain (λ _. u8)) yes, (stay-none (λ _. usize) yes, tt))
+stayed = (stay-none-slice (0 ∷ []) tt (plain (λ _. u8)) yes, (stay-none (λ _. usize) yes, (stay-none (λ _. usize) yes, tt)))
 
 -- r is the place of record i of the dump s
 abbrev Made : RefT (List ℕ) → ℕ → Place → Type 0
 Made s i r = (r .bytes ≡ s) × (r .number ≡ i)
 
--- a record is next
-abbrev Next : List ℕ → ℕ → Type 0
-Next bytes i = Whole bytes × (i < recordCount bytes)
+-- a record is next, and the running place is its own
+abbrev Next : List ℕ → (i running : ℕ) → Type 0
+Next bytes i running = Whole bytes × (i < recordCount bytes) × (running ≡ runningPlace (recordCount bytes) i)
 
 -- e has the numbers of record i
 abbrev Found : List ℕ → ℕ → Entry → Type 0
 Found bytes i e = (e .kind ≡ kindAt bytes i) × (e .operand ≡ operandAt bytes i)
 
-is-next : (s : RefT (List ℕ)) (i : ℕ) (r : Place) → Made s i r → Next (now s) i → Next (now (r .bytes)) (r .number)
-is-next s i r made next = rw (made .0, made .1) next
+is-next : (s : RefT (List ℕ)) (i running : ℕ) (r : Place) → Made s i r → Next (now s) i running → Next (now (r .bytes)) (r .number) running
+is-next s i running r made next = rw (made .0, made .1) next
 
 is-found : (s : RefT (List ℕ)) (i : ℕ) (r : Place) (e : Entry) → Made s i r → Found (now (r .bytes)) (r .number) e → Found (now s) i e
 is-found s i r e made found = rw (← made .0, ← made .1) found
@@ -86,7 +86,7 @@ module _ {M : Type 1} (𝓤 : URA M) (H : Heap 𝓤) (A : Atoms 𝓤) (mem : Mem
   abbrev Reads : Contract 𝓤
   Reads = tripleOf 𝓤 H A read.signature (read.spec 𝓤 H A mem run)
 
-module _ {M : Type 1} (𝓤 : URA M) (H : Heap 𝓤) (A : Atoms 𝓤) (W : Given 𝓤 H A) (mem : Memory → SProp 𝓤) (run : Routine → Fun 𝓤) (κ : Lft) (q : Share) (s : RefT (List ℕ)) (i : ℕ) (fits : i < 2 ^ 64) (next : Next (now s) i) where
+module _ {M : Type 1} (𝓤 : URA M) (H : Heap 𝓤) (A : Atoms 𝓤) (W : Given 𝓤 H A) (mem : Memory → SProp 𝓤) (run : Routine → Fun 𝓤) (κ : Lft) (q : Share) (s : RefT (List ℕ)) (i running : ℕ) (fits : i < 2 ^ 64) (fits′ : running < 2 ^ 64) (next : Next (now s) i running) where
   -- the machine value that s has
   abbrev v : Val
   v = sliceVal (s .ptr) (length (s .now))
@@ -96,10 +96,10 @@ module _ {M : Type 1} (𝓤 : URA M) (H : Heap 𝓤) (A : Atoms 𝓤) (W : Given
   αᵉ = record { mir = erased; lft = κ }
 
   abbrev at : Vals entry-at.signature (κ, tt)
-  at = (v ∷ [], (vint w64 i ∷ [], tt))
+  at = (v ∷ [], (vint w64 i ∷ [], (vint w64 running ∷ [], tt)))
 
   abbrev Post : Val → SProp 𝓤
-  Post = walkOf 𝓤 H A entry-at.ended stayed (entry-at.clauses 𝓤 H A mem run) .post (((κ, tt), (q, tt), tt, (s, (i, tt)), at), tt)
+  Post = walkOf 𝓤 H A entry-at.ended stayed (entry-at.clauses 𝓤 H A mem run) .post (((κ, tt), (q, tt), tt, (s, (i, (running, tt))), at), tt)
 
   abbrev Own : Fml
   Own = ShrSlice (named 0) κ u8 .own s (v ∷ [])
@@ -114,9 +114,9 @@ module _ {M : Type 1} (𝓤 : URA M) (H : Heap 𝓤) (A : Atoms 𝓤) (W : Given
   asked : ent 𝓤 (⋆ 𝓤 H A ((‵ (flft κ q) ⊛ ‵ ftrue) ∷ ‵ (owns (ShrSlice (named 0) κ u8 ∷ usize ∷ []) (s, (i, tt)) passed) ∷ [])) (Makes 𝓤 H A mem run .pre to-make)
   asked = qed W ((‵ (flft κ q) ⊛ ‵ ftrue) ∷ ‵ (owns (ShrSlice (named 0) κ u8 ∷ usize ∷ []) (s, (i, tt)) passed) ∷ []) ∵ join ! $ frame ! $ done !
 
-  goes-make : ent 𝓤 (onEntry 𝓤 H A entry-at.signature (κ, tt) (q, tt) (s, (i, tt)) at) (sep 𝓤 (Makes 𝓤 H A mem run .pre to-make) (sem 𝓤 H A Own))
+  goes-make : ent 𝓤 (onEntry 𝓤 H A entry-at.signature (κ, tt) (q, tt) (s, (i, (running, tt))) at) (sep 𝓤 (Makes 𝓤 H A mem run .pre to-make) (sem 𝓤 H A Own))
   goes-make =
-      qed W ((‵ (flft κ q) ⊛ ‵ ftrue) ∷ ‵ (owns (ShrSlice (named 0) κ u8 ∷ usize ∷ []) (s, (i, tt)) at) ∷ []) ∵
+      qed W ((‵ (flft κ q) ⊛ ‵ ftrue) ∷ ‵ (owns (ShrSlice (named 0) κ u8 ∷ usize ∷ usize ∷ []) (s, (i, (running, tt))) at) ∷ []) ∵
       move ! (1 ∷ []) $ fsplit ! $ move ! (1 ∷ []) $ drop ! $ use1 W (‵ Own ⊛ ‵ Own) (shr-slice-copy 𝓤 H A W (named 0) κ u8 .twice s (v ∷ [])) $ split ! $
       nothing ! $ owned ! usize (Is usize) (uint-makes 𝓤 H A W w64) i _ (refl, fits) $ fjoin ! $ move ! (1 ∷ 0 ∷ []) $ fjoin ! $
       move ! (2 ∷ 0 ∷ []) $ use2 W (raw (Makes 𝓤 H A mem run .pre to-make)) asked $ frame ! $ done !
@@ -126,57 +126,59 @@ module _ {M : Type 1} (𝓤 : URA M) (H : Heap 𝓤) (A : Atoms 𝓤) (W : Given
 
   -- the call of `read`, at the place r with the machine value u
   abbrev to-read : Place → Val → Reads 𝓤 H A mem run .Ghost
-  to-read r u = (((κ, tt), (q, tt), tt, (r, tt), (u ∷ [], tt)), tt)
+  to-read r u = (((κ, tt), (q, tt), tt, (r, (running, tt)), (u ∷ [], (vint w64 running ∷ [], tt))), tt)
 
-  goes-read : (r : Place) (u : Val) → Next (now (r .bytes)) (r .number) → ent 𝓤 (⋆ 𝓤 H A (‵ (PlaceAt (κ, tt) .own r (u ∷ [])) ∷ (‵ (flft κ q) ⊛ ‵ ftrue) ∷ [])) (Reads 𝓤 H A mem run .pre (to-read r u))
-  goes-read r u there = qed W (‵ (PlaceAt (κ, tt) .own r (u ∷ [])) ∷ (‵ (flft κ q) ⊛ ‵ ftrue) ∷ []) ∵ says ! there $ nothing ! $ move ! (1 ∷ 0 ∷ []) $ fjoin ! $ move ! (1 ∷ 0 ∷ []) $ frame ! $ done !
+  goes-read : (r : Place) (u : Val) → Next (now (r .bytes)) (r .number) running → ent 𝓤 (⋆ 𝓤 H A (‵ (PlaceAt (κ, tt) .own r (u ∷ [])) ∷ (‵ (flft κ q) ⊛ ‵ ftrue) ∷ [])) (Reads 𝓤 H A mem run .pre (to-read r u))
+  goes-read r u there = qed W (‵ (PlaceAt (κ, tt) .own r (u ∷ [])) ∷ (‵ (flft κ q) ⊛ ‵ ftrue) ∷ []) ∵ says ! there $
+      nothing ! $ owned ! usize (Is usize) (uint-makes 𝓤 H A W w64) running _ (refl, fits′) $ fjoin ! $ move ! (1 ∷ 0 ∷ []) $ fjoin ! $ move ! (1 ∷ 0 ∷ []) $ frame ! $ done !
 
-  read-said : (r : Place) (e : Entry) → ent 𝓤 (ensured 𝓤 H A read.ended (read.clauses 𝓤 H A mem run) (κ, tt) (r, tt) tt e) (fact 𝓤 (Found (now (r .bytes)) (r .number) e))
-  read-said r e = exE 𝓤 _ (λ ws. snd∗ 𝓤 (sem 𝓤 H A (lasts read.ended (κ, tt) (r, tt) ws)) (fact 𝓤 (Found (now (r .bytes)) (r .number) e)))
+  read-said : (r : Place) (e : Entry) → ent 𝓤 (ensured 𝓤 H A read.ended (read.clauses 𝓤 H A mem run) (κ, tt) (r, (running, tt)) tt e) (fact 𝓤 (Found (now (r .bytes)) (r .number) e))
+  read-said r e = exE 𝓤 _ (λ ws. snd∗ 𝓤 (sem 𝓤 H A (lasts read.ended (κ, tt) (r, (running, tt)) ws)) (fact 𝓤 (Found (now (r .bytes)) (r .number) e)))
 
   exits : (e : Entry) (u : Val) → Found (now s) i e → ent 𝓤 (⋆ 𝓤 H A (‵ (S.the-row .own e (u ∷ [])) ∷ (‵ (flft κ q) ⊛ ‵ ftrue) ∷ ‵ Own ∷ [])) (Post u)
   exits e u found =
       qed W (‵ (S.the-row .own e (u ∷ [])) ∷ (‵ (flft κ q) ⊛ ‵ ftrue) ∷ ‵ Own ∷ []) ∵
-      suffices ! _ (ends-at 𝓤 H A entry-at.ended stayed (entry-at.clauses 𝓤 H A mem run) W (((κ, tt), (q, tt), tt, (s, (i, tt)), at), tt) u e (tt, (tt, tt)) (tt, (tt, tt))) $ says ! found $
-      move ! (1 ∷ []) $ frame ! $ nothing ! $ owned ! usize (Is usize) (uint-makes 𝓤 H A W w64) i _ (refl, fits) $ fjoin ! $ move ! (2 ∷ 0 ∷ []) $ fjoin ! $ frame ! $ done !
+      suffices ! _ (ends-at 𝓤 H A entry-at.ended stayed (entry-at.clauses 𝓤 H A mem run) W (((κ, tt), (q, tt), tt, (s, (i, (running, tt))), at), tt) u e (tt, (tt, (tt, tt))) (tt, (tt, (tt, tt)))) $ says ! found $
+      move ! (1 ∷ []) $ frame ! $ nothing ! $ owned ! usize (Is usize) (uint-makes 𝓤 H A W w64) running _ (refl, fits′) $ fjoin ! $
+      owned ! usize (Is usize) (uint-makes 𝓤 H A W w64) i _ (refl, fits) $ fjoin ! $ move ! (2 ∷ 0 ∷ []) $ fjoin ! $ frame ! $ done !
 
   module _ (C : Calls 𝓤 H) (Λ : Loops 𝓤 H) (fm : FmC 𝓤 H (W .laws) C) (known-make : Triple 𝓤 (C #place-at) (Makes 𝓤 H A mem run)) (known-read : Triple 𝓤 (C #read) (Reads 𝓤 H A mem run)) where
-    walk : Is (ShrSlice (named 0) κ u8) s (v ∷ []) → ent 𝓤 (onEntry 𝓤 H A entry-at.signature (κ, tt) (q, tt) (s, (i, tt)) at) (WpFn 𝓤 H C Λ code.function (v ∷ vint w64 i ∷ []) Post)
+    walk : Is (ShrSlice (named 0) κ u8) s (v ∷ []) → ent 𝓤 (onEntry 𝓤 H A entry-at.signature (κ, tt) (q, tt) (s, (i, (running, tt))) at) (WpFn 𝓤 H C Λ code.function (v ∷ vint w64 i ∷ vint w64 running ∷ []) Post)
     walk p =
-        qed W (raw (onEntry 𝓤 H A entry-at.signature (κ, tt) (q, tt) (s, (i, tt)) at) ∷ []) ∵ enter ! C Λ code.function (v ∷ vint w64 i ∷ []) _ $
-        alloc1 ! (λ l₀. alloc1 ! (λ l₁. alloc1 ! (λ l₂. alloc1 ! (λ l₃. alloc0 ! $ params1 ! $
-        pass1 ! (init ! 4 refl (shr-slice-lawful 𝓤 H A W (named 0) κ u8 .typed s (v ∷ []) p .0)) $ pass1 ! (init ! 2 refl (tt, record { fits = fits })) $ pass0 ! $
-        move ! (8 ∷ []) $ use1 W (raw (Makes 𝓤 H A mem run .pre to-make) ⊛ ‵ Own) goes-make $ split ! $
-        calls-at ! fm (Makes 𝓤 H A mem run) known-make to-make (and-then ! (load ! (from ! (stop !)) (look ! 6 refl)) (and-then ! (load ! (from ! (stop !)) (look ! 4 refl)) (no-more !))) (λ u.
+        qed W (raw (onEntry 𝓤 H A entry-at.signature (κ, tt) (q, tt) (s, (i, (running, tt))) at) ∷ []) ∵ enter ! C Λ code.function (v ∷ vint w64 i ∷ vint w64 running ∷ []) _ $
+        alloc1 ! (λ l₀. alloc1 ! (λ l₁. alloc1 ! (λ l₂. alloc1 ! (λ l₃. alloc1 ! (λ l₄. alloc0 ! $ params1 ! $
+        pass1 ! (init ! 6 refl (shr-slice-lawful 𝓤 H A W (named 0) κ u8 .typed s (v ∷ []) p .0)) $ pass1 ! (init ! 4 refl (tt, record { fits = fits })) $ pass1 ! (init ! 2 refl (tt, record { fits = fits′ })) $ pass0 ! $
+        move ! (10 ∷ []) $ use1 W (raw (Makes 𝓤 H A mem run .pre to-make) ⊛ ‵ Own) goes-make $ split ! $
+        calls-at ! fm (Makes 𝓤 H A mem run) known-make to-make (and-then ! (load ! (from ! (stop !)) (look ! 8 refl)) (and-then ! (load ! (from ! (stop !)) (look ! 6 refl)) (no-more !))) (λ u.
         use1 W (later (some (λ (r : Place). ((‵ (flft κ q) ⊛ ‵ ftrue) ⊛ ‵ (PlaceAt (κ, tt) .own r (u ∷ []))) ⊛ raw (ensured 𝓤 H A place-at.ended (place-at.clauses 𝓤 H A mem run) (κ, tt) (s, (i, tt)) tt r)))) (id⊢ 𝓤 _) $ await ! tt $ pick ! (λ r.
         split ! $ move ! (1 ∷ []) $ use1 W (raw (fact 𝓤 (Made s i r))) (made-said r) $ heard ! (Made s i r) (λ made. split ! $ move ! (1 ∷ []) $
-        -- [what the place owns; the token; what s owns; room for _3; …; _2; …; _1; …; room for _0; …]
+        -- [what the place owns; the token; what s owns; room for _4; …; _3; …; _2; …; _1; …; room for _0; …]
         peeks ! (PlaceAt (κ, tt)) (Is (PlaceAt (κ, tt))) (shows 𝓤 H A (PlaceAt (κ, tt))) r (u ∷ []) (λ is.
         land ! (from ! (stop !)) (init ! 3 refl (LL.lawful (T.the-type αᵉ) (T′.the-laws αᵉ) 𝓤 H A W .typed r _ is .0)) $
-        use2 W (raw (Reads 𝓤 H A mem run .pre (to-read r u))) (goes-read r u (is-next s i r made next)) $
-        calls-at ! fm (Reads 𝓤 H A mem run) known-read (to-read r u) (and-then ! (load ! (from ! (stop !)) (look ! 2 refl)) (no-more !)) (λ u′.
-        use1 W (later (some (λ (e : Entry). ((‵ (flft κ q) ⊛ ‵ ftrue) ⊛ ‵ (S.the-row .own e (u′ ∷ []))) ⊛ raw (ensured 𝓤 H A read.ended (read.clauses 𝓤 H A mem run) (κ, tt) (r, tt) tt e)))) (id⊢ 𝓤 _) $ await ! tt $ pick ! (λ e.
+        use2 W (raw (Reads 𝓤 H A mem run .pre (to-read r u))) (goes-read r u (is-next s i running r made next)) $
+        calls-at ! fm (Reads 𝓤 H A mem run) known-read (to-read r u) (and-then ! (load ! (from ! (stop !)) (look ! 2 refl)) (and-then ! (load ! (from ! (stop !)) (look ! 4 refl)) (no-more !))) (λ u′.
+        use1 W (later (some (λ (e : Entry). ((‵ (flft κ q) ⊛ ‵ ftrue) ⊛ ‵ (S.the-row .own e (u′ ∷ []))) ⊛ raw (ensured 𝓤 H A read.ended (read.clauses 𝓤 H A mem run) (κ, tt) (r, (running, tt)) tt e)))) (id⊢ 𝓤 _) $ await ! tt $ pick ! (λ e.
         split ! $ move ! (1 ∷ []) $ use1 W (raw (fact 𝓤 (Found (now (r .bytes)) (r .number) e))) (read-said r e) $ heard ! (Found (now (r .bytes)) (r .number) e) (λ found. split ! $ move ! (1 ∷ []) $
-        -- [the result; the token; what s owns; _3; …; _2; …; _1; …; room for _0; …]
+        -- [the result; the token; what s owns; _4; …; _3; …; _2; …; _1; …; room for _0; …]
         peeks ! S.the-row (Is S.the-row) (shows 𝓤 H A S.the-row) e (u′ ∷ []) (λ is′.
-        land ! (from ! (stop !)) (init ! 9 refl (LL.lawful S.the-type S′.the-laws 𝓤 H A W .typed e _ is′ .0)) $
-        returns ! (look ! 9 refl) $ forget ! 3 refl $ forget ! 5 refl $ forget ! 7 refl $ forget ! 9 refl $
-        move ! (9 ∷ 10 ∷ []) $ free1 ! $ move ! (7 ∷ 8 ∷ []) $ free1 ! $ move ! (5 ∷ 6 ∷ []) $ free1 ! $ move ! (3 ∷ 4 ∷ []) $ free1 ! $ free0 ! $
-        by ! (exits e u′ (is-found s i r e made found))))))))))))))
+        land ! (from ! (stop !)) (init ! 11 refl (LL.lawful S.the-type S′.the-laws 𝓤 H A W .typed e _ is′ .0)) $
+        returns ! (look ! 11 refl) $ forget ! 3 refl $ forget ! 5 refl $ forget ! 7 refl $ forget ! 9 refl $ forget ! 11 refl $
+        move ! (11 ∷ 12 ∷ []) $ free1 ! $ move ! (9 ∷ 10 ∷ []) $ free1 ! $ move ! (7 ∷ 8 ∷ []) $ free1 ! $ move ! (5 ∷ 6 ∷ []) $ free1 ! $ move ! (3 ∷ 4 ∷ []) $ free1 ! $ free0 ! $
+        by ! (exits e u′ (is-found s i r e made found)))))))))))))))
 
 module _ {M : Type 1} (𝓤 : URA M) (H : Heap 𝓤) (A : Atoms 𝓤) (W : Given 𝓤 H A) (mem : Memory → SProp 𝓤) (run : Routine → Fun 𝓤) where
   walks : (C : Calls 𝓤 H) (Λ : Loops 𝓤 H) → FmC 𝓤 H (W .laws) C → Triple 𝓤 (C #place-at) (Makes 𝓤 H A mem run) → Triple 𝓤 (C #read) (Reads 𝓤 H A mem run)
       → Walks 𝓤 H A entry-at.ended stayed (WpFn 𝓤 H C Λ code.function) (entry-at.clauses 𝓤 H A mem run)
   walks C Λ fm known-make known-read = walked 𝓤 H A entry-at.ended stayed (entry-at.clauses 𝓤 H A mem run) (WpFn 𝓤 H C Λ code.function)
-      (λ κs. (slice-vals, (uint-vals w64, tt))) (λ κs. (shr-slice-tells (named 0) (κs .0) u8, (uint-tells w64, tt)))
-      (λ κs qs bounds a g are. needs 𝓤 (Next (now (a .0)) (a .1 .0)) _ (λ next.
-      walk 𝓤 H A W mem run (κs .0) (qs .0) (a .0) (a .1 .0) (are .1 .0 .1) next C Λ fm known-make known-read (are .0)))
+      (λ κs. (slice-vals, (uint-vals w64, (uint-vals w64, tt)))) (λ κs. (shr-slice-tells (named 0) (κs .0) u8, (uint-tells w64, (uint-tells w64, tt))))
+      (λ κs qs bounds a g are. needs 𝓤 (Next (now (a .0)) (a .1 .0) (a .1 .1 .0)) _ (λ next.
+      walk 𝓤 H A W mem run (κs .0) (qs .0) (a .0) (a .1 .0) (a .1 .1 .0) (are .1 .0 .1) (are .1 .1 .0 .1) next C Λ fm known-make known-read (are .0)))
 
 meets : {M : Type 1} (𝓤 : URA M) (H : Heap 𝓤) (A : Atoms 𝓤) → Given 𝓤 H A → (mem : Memory → SProp 𝓤) (run : Routine → Fun 𝓤) (𝓣 : Tables 𝓤 H)
     → Triple 𝓤 (𝓣 .C #place-at) (Makes 𝓤 H A mem run) → Triple 𝓤 (𝓣 .C #read) (Reads 𝓤 H A mem run)
     → Meets 𝓤 H A entry-at.signature (WpFn 𝓤 H (𝓣 .C) (𝓣 .Λ) code.function) (entry-at.spec 𝓤 H A mem run)
 meets 𝓤 H A W mem run 𝓣 known-make known-read =
-    walk-meets 𝓤 H A entry-at.ended stayed W (goes-none-slice 𝓤 H A W 1 (0 ∷ []) tt (plain (λ _. u8)) yes, (goes-none 𝓤 H A W 1 (λ _. usize) yes (λ κs x f. refl), tt)) (entry-at.clauses 𝓤 H A mem run)
+    walk-meets 𝓤 H A entry-at.ended stayed W (goes-none-slice 𝓤 H A W 1 (0 ∷ []) tt (plain (λ _. u8)) yes, (goes-none 𝓤 H A W 1 (λ _. usize) yes (λ κs x f. refl), (goes-none 𝓤 H A W 1 (λ _. usize) yes (λ κs x f. refl), tt))) (entry-at.clauses 𝓤 H A mem run)
     (WpFn 𝓤 H (𝓣 .C) (𝓣 .Λ) code.function) (WpFn-mono 𝓤 H (W .laws) 𝓣 code.function) (walks 𝓤 H A W mem run (𝓣 .C) (𝓣 .Λ) (fmOf 𝓤 H (W .laws) 𝓣) known-make known-read)
 
 pub entry-at-spec : {M : Type 1} → stated.statement M

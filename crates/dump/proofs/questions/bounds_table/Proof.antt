@@ -10,10 +10,10 @@ use Rattle.dump.proofs.questions.bounds_table.Statement.{statement}
 use Rattle.dump.proofs.questions.bounds_table.Tie as tie
 
 abbrev Inv-loop : tie.InvT-loop
-Inv-loop threads sections table₀ k₀ table k = (k ≤ 32) × (length table ≡ 32) × Tabled threads sections k table
+Inv-loop threads sections list table₀ k₀ table k = (k ≤ 32) × (length table ≡ 32) × Tabled threads sections list k table
 
 abbrev μ-loop : tie.MeasureT-loop
-μ-loop threads sections table₀ k₀ table k = 32 - k
+μ-loop threads sections list table₀ k₀ table k = 32 - k
 
 below-requires : tie.Need-below-requires Inv-loop μ-loop
 below-requires c κs = search needs
@@ -21,11 +21,11 @@ below-requires c κs = search needs
 loop-holds : tie.Need-loop-holds Inv-loop μ-loop
 loop-holds c = (omega arith, refl, λ k h. absurd (omega arith))
 
-cast-bounds-of : tie.Need-cast-bounds-of Inv-loop μ-loop
-cast-bounds-of c = search needs
+cast-bounds-for : tie.Need-cast-bounds-for Inv-loop μ-loop
+cast-bounds-for c = search needs
 
-bounds-of-requires : tie.Need-bounds-of-requires Inv-loop μ-loop
-bounds-of-requires c κs = search needs
+bounds-for-requires : tie.Need-bounds-for-requires Inv-loop μ-loop
+bounds-for-requires c κs = search needs
 
 mul-table : tie.Need-mul-table Inv-loop μ-loop
 mul-table c = search needs
@@ -43,7 +43,7 @@ loop-again : tie.Need-loop-again Inv-loop μ-loop
 loop-again c =
     let l = c .before .before in
     let a = l .before .before .args in
-    (omega arith, simp length-set (l .loop .inv .1), tabled (a .threads) (a .sections) (l .loop .k) (l .loop .table) (c .bounds-of .result) (omega arith) (l .loop .inv .2) (c .bounds-of .ensures))
+    (omega arith, simp length-set (l .loop .inv .1), tabled (a .threads) (a .sections) (a .list) (l .loop .k) (l .loop .table) (c .bounds-for .result) (omega arith) (l .loop .inv .2) (c .bounds-for .ensures))
 
 returns : tie.Need-returns Inv-loop μ-loop
 returns c k h = c .before .loop .inv .2 k (omega arith)
@@ -56,8 +56,8 @@ bounds-table-spec =
     μ-loop
     below-requires
     loop-holds
-    cast-bounds-of
-    bounds-of-requires
+    cast-bounds-for
+    bounds-for-requires
     mul-table
     array-set-from-table
     add-k

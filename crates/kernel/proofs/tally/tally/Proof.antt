@@ -10,45 +10,57 @@ use lib.ListN.{length}
 use Rattle.model.specs.Records.{Record}
 use Rattle.machine.specs.View.{view}
 use Rattle.machine.specs.Contracts.{Fresh}
+use Rattle.dump.specs.Layout.{recordCount, runningPlace}
+use Rattle.dump.proofs.Laws.{running-place, running-next}
 use Rattle.kernel.specs.Answers.{isMade, recordsOf}
 use Rattle.kernel.specs.Contracts.{Passed, madeOf}
 use Rattle.kernel.proofs.Giving.{IsFormed}
-use Rattle.kernel.proofs.CallList.{calls-few}
+use Rattle.kernel.proofs.CallList.{list-whole, calls-few}
 use Rattle.kernel.proofs.CallsMade.{CallsMade, added, added-count, made-begin, made-all, made-steps, made-broke, made-due, made-formed, made-next}
 use Rattle.kernel.proofs.tally.tally.Statement.{statement}
 use Rattle.kernel.proofs.tally.tally.Tie as tie
 
 abbrev Inv-loop : tie.InvT-loop
-Inv-loop ceilings list n first who₀ records₀ k₀ s who records k = (k ≤ n) × (done : List Record) × (records ≡ length done) × CallsMade (first .machine .plan) list k s who done
+Inv-loop ceilings list n first who₀ records₀ k₀ running₀ s who records k running =
+    (k ≤ n) × (done : List Record) × (records ≡ length done) × CallsMade (first .machine .plan) list k s who done × (running ≡ runningPlace (recordCount list) k)
 
 abbrev μ-loop : tie.MeasureT-loop
-μ-loop ceilings list n first who₀ records₀ k₀ s who records k = n - k
+μ-loop ceilings list n first who₀ records₀ k₀ running₀ s who records k running = n - k
 
 fresh-requires : tie.Need-fresh-requires Inv-loop μ-loop
 fresh-requires c κs = tt
 
+first-operand-requires : tie.Need-first-operand-requires Inv-loop μ-loop
+first-operand-requires c κs = calls-few (c .before .before .pre)
+
 loop-holds : tie.Need-loop-holds Inv-loop μ-loop
 loop-holds c =
-    let f = c .fresh in
-    (omega arith, [], refl, made-begin (f .result .machine .plan) (c .before .before .args .list .now) (f .result) (subst (Fresh (f .result)) (sym (f .ensures .plan')) (f .ensures)))
+    let f = c .before .fresh in
+    let s = c .before .before .before in (
+      omega arith,
+      [],
+      refl,
+      made-begin (f .result .machine .plan) (s .args .list .now) (f .result) (subst (Fresh (f .result)) (sym (f .ensures .plan')) (f .ensures)),
+      c .first-operand .ensures ∙ ap (λ m. runningPlace m 0) (s .pre .count),
+    )
 
 -- what the run asks, of the plan that the first state carries
-passed : (c : tie.At-loop Inv-loop μ-loop) → (let s = c .before .before .before in Passed (c .before .fresh .result .machine .plan) (s .args .ceilings .now) (s .args .list .now) (s .args .n))
+passed : (c : tie.At-loop Inv-loop μ-loop) → (let s = c .before .before .before .before in Passed (c .before .before .fresh .result .machine .plan) (s .args .ceilings .now) (s .args .list .now) (s .args .n))
 passed c =
-    let s = c .before .before .before in
-    subst (λ p. Passed p (s .args .ceilings .now) (s .args .list .now) (s .args .n)) (sym (c .before .fresh .ensures .plan')) (s .pre)
+    let s = c .before .before .before .before in
+    subst (λ p. Passed p (s .args .ceilings .now) (s .args .list .now) (s .args .n)) (sym (c .before .before .fresh .ensures .plan')) (s .pre)
 
 step-requires : tie.Need-step-requires Inv-loop μ-loop
 step-requires c κs =
     let l = c .before in
-    made-steps (passed l) (l .loop .inv .3) (c .loop-test .taken)
+    (made-steps (passed l) (l .loop .inv .3) (c .loop-test .taken), l .loop .inv .4)
 
 returns : tie.Need-returns Inv-loop μ-loop
 returns c =
     let t = c .before .before .before in
     let l = t .before .before in
     let e =
-    ap (λ p. madeOf p (l .before .before .before .args .list .now)) (sym (l .before .fresh .ensures .plan'))
+    ap (λ p. madeOf p (l .before .before .before .before .args .list .now)) (sym (l .before .before .fresh .ensures .plan'))
     ∙ made-broke (passed l) (l .loop .inv .3) (t .before .loop-test .taken) (t .step .result) (t .step .ensures) (c .if1 .taken)
     in
     record { admitted' = sym (ap isMade e); records' = sym (ap (λ o. length (recordsOf o)) e) }
@@ -86,6 +98,14 @@ settled-requires c κs = admitted (c .before) .1
 add-k : tie.Need-add-k Inv-loop μ-loop
 add-k c = record { fits = omega (arith, few (c .before .before .before .before .before .before) .0) }
 
+add-running : tie.Need-add-running Inv-loop μ-loop
+add-running c =
+    let i = c .before .before .before .before .before .before in
+    let l = i .before in
+    let v = l .loop .inv in
+    let list = l .before .before .before .before .args .list .now in
+    record { fits = omega (arith, v .4, running-place (recordCount list) (l .loop .k), few i .0, list-whole (passed l) .count) }
+
 loop-less : tie.Need-loop-less Inv-loop μ-loop
 loop-less c = omega (arith, c .before .before .before .before .before .before .loop-test .taken)
 
@@ -98,22 +118,22 @@ loop-again c =
     let k = t .before .loop-test .taken in
     let o = t .step .result in
     let n = made-next (passed l) (v .3) k o (t .step .ensures) (e .if1 .left) (c .settled .result) (c .settled .ensures) in
-    let d = l .before .before .before .args .list .now in
+    let d = l .before .before .before .before .args .list .now in
     let count : l .loop .records + 1 + c .before .due-count .result ≡ length (v .1 ++ added d (l .loop .k) (view (o .state))) =
     omega (arith, v .2, c .before .due-count .ensures, added-count (v .1) d (l .loop .k) (view (o .state)))
     in
-    (omega (arith, k), v .1 ++ added d (l .loop .k) (view (o .state)), count, n)
+    (omega (arith, k), v .1 ++ added d (l .loop .k) (view (o .state)), count, n, running-next (recordCount d) (l .loop .k) (v .4))
 
 is-complete-requires : tie.Need-is-complete-requires Inv-loop μ-loop
 is-complete-requires c κs = tt
 
 -- after the last call all is made, or an arming is in progress
 made-is : (c : tie.After-is-complete Inv-loop μ-loop) {b : Bool} → c .is-complete .result ≡ b
-    → (let l = c .before .before in madeOf (l .before .before .before .args .plan) (l .before .before .before .args .list .now) ≡ cond b (some (l .loop .inv .1)) none)
+    → (let l = c .before .before in madeOf (l .before .before .before .before .args .plan) (l .before .before .before .before .args .list .now) ≡ cond b (some (l .loop .inv .1)) none)
 made-is c e =
     let l = c .before .before in
     let v = l .loop .inv in
-    ap (λ p. madeOf p (l .before .before .before .args .list .now)) (sym (l .before .fresh .ensures .plan'))
+    ap (λ p. madeOf p (l .before .before .before .before .args .list .now)) (sym (l .before .before .fresh .ensures .plan'))
     ∙ made-all (passed l) (v .3) (c .before .loop-test .left) ∙ ap (λ b. cond b (some (v .1)) none) (sym (c .is-complete .ensures) ∙ e)
 
 returns-2 : tie.Need-returns-2 Inv-loop μ-loop
@@ -133,6 +153,7 @@ tally-spec =
     Inv-loop
     μ-loop
     fresh-requires
+    first-operand-requires
     loop-holds
     step-requires
     returns
@@ -141,6 +162,7 @@ tally-spec =
     add-records-2
     settled-requires
     add-k
+    add-running
     loop-less
     loop-again
     is-complete-requires

@@ -5,15 +5,6 @@ use lib.ListN.{length-set}
 use Rattle.kernel.proofs.write.put.Statement.{statement}
 use Rattle.kernel.proofs.write.put.Tie as tie
 
-add-at : tie.Need-add-at
-add-at c = search needs
-
-mul-at : tie.Need-mul-at
-mul-at c = search needs
-
-add-at-2 : tie.Need-add-at-2
-add-at-2 c = search needs
-
 add-out : tie.Need-add-out
 add-out c = search needs
 
@@ -45,9 +36,6 @@ pub put-spec : {M : Type 1} → statement M
 put-spec =
     tie.close
     (tie.spec
-    add-at
-    mul-at
-    add-at-2
     add-out
     slice-write-out
     cast-out

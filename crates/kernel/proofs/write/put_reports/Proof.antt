@@ -1,6 +1,6 @@
 -- `put_reports` meets its contract: each turn puts the first report due at its place and gives it.
 use mathlib.Core.Path.{ap}
-use Prim.Native.Nat.{_<_}
+use Prim.Native.Nat.{_+_, _<_}
 use native.Mathlib.Omega.{arith}
 use lib.ListN.{length}
 use Rattle.machine.specs.View.{view}
@@ -11,10 +11,10 @@ use Rattle.kernel.proofs.write.put_reports.Statement.{statement}
 use Rattle.kernel.proofs.write.put_reports.Tie as tie
 
 abbrev Inv-loop : tie.InvT-loop
-Inv-loop before n i first at₀ out s at = Putting n i first before at s out
+Inv-loop before i running first at₀ to₀ out s at to = Putting i running first before at to s out
 
 abbrev μ-loop : tie.MeasureT-loop
-μ-loop before n i first at₀ out s at = length (view s .due)
+μ-loop before i running first at₀ to₀ out s at to = length (view s .due)
 
 loop-holds : tie.Need-loop-holds Inv-loop μ-loop
 loop-holds c = putting-begin (c .before .pre)
@@ -25,25 +25,30 @@ due-count-requires c κs = tt
 owes : (c : tie.Then1 Inv-loop μ-loop) → Owes (c .before .before .loop .s)
 owes c = giving-owes (c .before .before .loop .inv .giving) (omega (arith, c .before .due-count .ensures, c .if1 .taken))
 
--- the report has a place of its own
-fits : (c : tie.Then1 Inv-loop μ-loop) → c .before .before .loop .at < c .before .before .before .before .args .n
+-- the report has two places of its own
+fits : (c : tie.Then1 Inv-loop μ-loop) → (let l = c .before .before .loop in (2 + l .at < length (l .out)) × (l .to + 1 < length (l .out)))
 fits c = putting-fits (c .before .before .loop .inv) (c .before .before .before .before .pre) (owes c .due')
 
 first-due-requires : tie.Need-first-due-requires Inv-loop μ-loop
 first-due-requires c κs = owes c
 
 put-requires : tie.Need-put-requires Inv-loop μ-loop
-put-requires c κs =
-    let t = c .before .before in
-    (fits t, omega (arith, t .before .before .loop .inv .size, t .before .before .before .before .pre .room))
+put-requires c κs = fits (c .before .before)
 
 delivered-requires : tie.Need-delivered-requires Inv-loop μ-loop
 delivered-requires c κs = let f = c .before .before .before .before in (owes (f .before), f .first-due .ensures)
 
 add-at : tie.Need-add-at Inv-loop μ-loop
 add-at c =
-    let t = c .before .before .before .before .before .before in
-    record { fits = omega (arith, fits t, t .before .before .before .before .fits .n) }
+    let k = c .before in
+    let t = k .before .before .before .before .before in
+    record { fits = omega (arith, fits t .0, t .before .before .loop .inv .size, t .before .before .before .before .good .1 .0) }
+
+add-to : tie.Need-add-to Inv-loop μ-loop
+add-to c =
+    let k = c .before in
+    let t = k .before .before .before .before .before in
+    record { fits = omega (arith, fits t .1, t .before .before .loop .inv .size, t .before .before .before .before .good .1 .0) }
 
 loop-less : tie.Need-loop-less Inv-loop μ-loop
 loop-less c =
@@ -74,6 +79,7 @@ put-reports-spec =
     put-requires
     delivered-requires
     add-at
+    add-to
     loop-less
     loop-again
     same-length

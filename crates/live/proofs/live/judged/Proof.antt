@@ -79,14 +79,17 @@ cast-t22 c = search needs
 slice-aggregate-step : tie.Need-slice-aggregate-step
 slice-aggregate-step c = search needs
 
+first-operand-requires : tie.Need-first-operand-requires
+first-operand-requires c κs = omega arith
+
 step-requires : tie.Need-step-requires
 step-requires c κs =
-    let w = c .before .before .before in
-    alone-asked (start w .pre) (w .before .before .ceilings .ensures) (w .chosen .ensures)
+    let w = c .before .before .before .before in
+    (alone-asked (start w .pre) (w .before .before .ceilings .ensures) (w .chosen .ensures), c .first-operand .ensures)
 
 returns-2 : tie.Need-returns-2
 returns-2 c =
-    let s = start (c .before .before .before .before) .args in
+    let s = start (c .before .before .before .before .before) .args in
     subst (λ x. Advances (c .step .result .state) (c .step .result .chosen) (c .step .result .rule) (s .state) x) (record-alone (s .kind) (s .operand)) (c .step .ensures)
 
 pub judged-spec : {M : Type 1} → statement M
@@ -105,5 +108,6 @@ judged-spec =
     cast-t20
     cast-t22
     slice-aggregate-step
+    first-operand-requires
     step-requires
     returns-2)

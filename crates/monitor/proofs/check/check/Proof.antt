@@ -1,13 +1,14 @@
 -- `check` meets its contract: the questions to the plan, those to the dump, and the walk over its records from the start.
-use mathlib.Core.Path.{_≡_, sym, _∙_}
+use mathlib.Core.Path.{_≡_, ap, sym, _∙_}
 use mathlib.Core.Bool.{false}
 use mathlib.Core.Option.{none}
 use borrow.Author.Needs.{needs}
 use Rattle.plan.specs.Bytes.{refusal}
 use Rattle.plan.proofs.Laws as plan-laws
+use Rattle.dump.specs.Layout.{runningPlace}
 use Rattle.dump.proofs.Laws as dump-laws
 use Rattle.monitor.proofs.Passed.{refused-check}
-use Rattle.monitor.proofs.Checking.{Unrefused, check-counts, check-walks, check-breach, check-clean}
+use Rattle.monitor.proofs.Checking.{Unrefused, check-counts, check-few, check-walks, check-breach, check-clean}
 use Rattle.monitor.proofs.check.check.Statement.{statement}
 use Rattle.monitor.proofs.check.check.Tie as tie
 
@@ -61,17 +62,22 @@ record-count-requires c κs = check-counts (unrefused (c .before))
 fresh-requires : tie.Need-fresh-requires
 fresh-requires c κs = search needs
 
+first-operand-requires : tie.Need-first-operand-requires
+first-operand-requires c κs =
+    let n = c .before .before in
+    check-few (unrefused (n .before .before)) (n .record-count .ensures)
+
 walk-requires : tie.Need-walk-requires
 walk-requires c κs =
-    let f = c .before in
+    let f = c .before .before in
     let n = f .before in
     let l = n .before in
-    check-walks (unrefused (l .before)) (f .fresh .ensures) (l .ceilings .ensures) (n .record-count .ensures)
+    (check-walks (unrefused (l .before)) (f .fresh .ensures) (l .ceilings .ensures) (n .record-count .ensures), c .first-operand .ensures ∙ ap (λ m. runningPlace m 0) (n .record-count .ensures))
 
 returns-3 : tie.Need-returns-3
 returns-3 c =
     let w = c .before .before in
-    let f = w .before .before in
+    let f = w .before .before .before in
     let n = f .before in
     check-breach (unrefused (n .before .before)) (f .fresh .ensures) (n .record-count .ensures) (w .walk .ensures) (c .if3 .taken)
 
@@ -82,7 +88,7 @@ returns-4 : tie.Need-returns-4
 returns-4 c =
     let i = c .before .before in
     let w = i .before .before in
-    let f = w .before .before in
+    let f = w .before .before .before in
     let n = f .before in
     check-clean (unrefused (n .before .before)) (f .fresh .ensures) (n .record-count .ensures) (w .walk .ensures) (i .if3 .left) (c .due-count .ensures)
 
@@ -98,6 +104,7 @@ check-spec =
     ceilings-requires
     record-count-requires
     fresh-requires
+    first-operand-requires
     walk-requires
     returns-3
     due-count-requires

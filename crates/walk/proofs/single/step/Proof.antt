@@ -5,10 +5,10 @@ use Rattle.walk.proofs.single.step.Statement.{statement}
 use Rattle.walk.proofs.single.step.Tie as tie
 
 add-walk : tie.Need-add-walk
-add-walk c = record { fits = omega (arith, c .before .pre .within, c .before .pre .whole .count) }
+add-walk c = record { fits = omega (arith, c .before .pre .0 .within, c .before .pre .0 .whole .count) }
 
 walk-requires : tie.Need-walk-requires
-walk-requires c κs = single-walks (c .before .pre)
+walk-requires c κs = let s = c .before in (single-walks (s .pre .0), s .pre .1)
 
 returns : tie.Need-returns
 returns c = let s = c .before .before .before in single-answers (s .args .bytes .now) (s .args .i) (c .before .walk .ensures)

@@ -1,9 +1,11 @@
--- `walk` meets its contract. The loop's invariant: no rule is broken yet, and from the state and record reached the run goes on to where it ends.
+-- `walk` meets its contract. The loop's invariant: no rule is broken yet, from the state and record reached the run goes on to where it ends, and the
+-- running place is that record's.
 -- Each way through the loop is one of the machine's answers.
 use mathlib.Core.Path.{_≡_, refl, ap, sym, subst, _∙_}
 use mathlib.Core.Logic.{⊎-elim}
 use mathlib.Core.Bool.{true, _&&_}
 use Prim.Native.Nat.{ℕ, _-_, _≤_, _<_}
+use native.Mathlib.Omega.{arith}
 use borrow.Author.Needs.{needs}
 use lib.Dec.{T, eqb, ltb, eqb→eq, ltb→lt}
 use Rattle.model.specs.Records as records
@@ -17,19 +19,20 @@ use Rattle.machine.specs.Records as machine
 use Rattle.machine.specs.Contracts.{passed}
 use Rattle.machine.specs.Calls.{Apart, Asks, Calls, Answers, Called, inPlace, Closes}
 use Rattle.machine.proofs.Laws.{named-place, arming-known, heard-answers, unasked-answers, passed-answers}
-use Rattle.dump.specs.Layout.{recordOf, recordAt}
+use Rattle.dump.specs.Layout.{recordCount, recordOf, recordAt, runningPlace}
 use Rattle.dump.specs.Questions.{operandFits}
-use Rattle.dump.proofs.Laws.{names}
+use Rattle.dump.proofs.Laws.{names, running-place, running-next}
 use Rattle.walk.specs.Contracts.{WalkEnds}
 use Rattle.walk.proofs.Walking.{heard-due, not-heard, plan-ceilings, Walking, as-came, as-opened, walk-begins, walk-ends, walk-within, walk-record, walk-reads, walk-asks, walk-breaks, walk-moves}
 use Rattle.walk.proofs.walk.walk.Statement.{statement}
 use Rattle.walk.proofs.walk.walk.Tie as tie
 
 abbrev Inv-loop : tie.InvT-loop
-Inv-loop ceilings chosen bytes from to c₀ i₀ c i = (c .rule ≡ 0) × Walking (c₀ .machine .plan) (shown c₀) bytes from to c i
+Inv-loop ceilings chosen bytes from place to c₀ i₀ running₀ c i running =
+    (c .rule ≡ 0) × Walking (c₀ .machine .plan) (shown c₀) bytes from to c i × (running ≡ runningPlace (recordCount bytes) i)
 
 abbrev μ-loop : tie.MeasureT-loop
-μ-loop ceilings chosen bytes from to c₀ i₀ c i = to - i
+μ-loop ceilings chosen bytes from place to c₀ i₀ running₀ c i running = to - i
 
 opened-requires : tie.Need-opened-requires Inv-loop μ-loop
 opened-requires c κs = tt
@@ -45,7 +48,8 @@ loop-holds c =
     let a = s .args in
     let e = c .opened .ensures in (
       ap (λ (x : Reporting). x .rule) e,
-      as-opened (a .s) (a .who) e (walk-begins (s .pre) e),
+      as-opened (a .s) (a .who) e (walk-begins (s .pre .0) e),
+      s .pre .1,
     )
 
 -- where the loop stands, as a walk from the state that came
@@ -53,7 +57,7 @@ standing : (l : tie.At-loop Inv-loop μ-loop) → (let a = start l .args in Walk
 standing l = let a = start l .args in as-came (a .s) (a .who) (l .before .opened .ensures) (l .loop .inv .1)
 
 entry-at-requires : tie.Need-entry-at-requires Inv-loop μ-loop
-entry-at-requires c κs = let l = c .before in (start l .pre .whole, walk-within (start l .pre) (standing l) (c .loop-test .taken))
+entry-at-requires c κs = let l = c .before in (start l .pre .0 .whole, walk-within (start l .pre .0) (standing l) (c .loop-test .taken), l .loop .inv .2)
 
 -- what is known of record i, once it is read
 
@@ -64,13 +68,13 @@ abbrev at : (e : tie.After-entry-at Inv-loop μ-loop) → records.Record
 at e = recordAt (start (here e) .args .bytes .now) (here e .loop .i)
 
 asks : (e : tie.After-entry-at Inv-loop μ-loop) → Asks (here e .loop .c) (start (here e) .args .ceilings .now) (at e)
-asks e = let l = here e in walk-asks (start l .pre) (standing l) (e .before .loop-test .taken)
+asks e = let l = here e in walk-asks (start l .pre .0) (standing l) (e .before .loop-test .taken)
 
 is-record : (e : tie.After-entry-at Inv-loop μ-loop) → (let r = e .entry-at .result in recordOf (r .kind) (r .operand) ≡ at e)
 is-record e = let l = here e in walk-record (start l .args .bytes .now) (l .loop .i) (e .entry-at .ensures)
 
 readable : (e : tie.After-entry-at Inv-loop μ-loop) → (let r = e .entry-at .result in T (operandFits 16 16 (r .kind) (r .operand)))
-readable e = let l = here e in walk-reads (start l .pre) (standing l) (e .before .loop-test .taken) (e .entry-at .ensures)
+readable e = let l = here e in walk-reads (start l .pre .0) (standing l) (e .before .loop-test .taken) (e .entry-at .ensures)
 
 named : (e : tie.After-entry-at Inv-loop μ-loop) → (let r = e .entry-at .result in machine.Named (r .kind) (r .operand) (at e))
 named e = let r = e .entry-at .result in subst (machine.Named (r .kind) (r .operand)) (is-record e) (names (r .kind) (r .operand) (readable e))
@@ -251,6 +255,14 @@ answered j =
 add-i : tie.Need-add-i Inv-loop μ-loop
 add-i c = search needs
 
+-- the running place is within the bytes, by its law
+add-running : tie.Need-add-running Inv-loop μ-loop
+add-running c =
+    let e = c .before .before .before .before in
+    let l = here e in
+    let n = recordCount (start l .args .bytes .now) in
+    record { fits = omega (arith, l .loop .inv .2, running-place n (l .loop .i), walk-within (start l .pre .0) (standing l) (e .before .loop-test .taken), start l .pre .0 .whole .count) }
+
 loop-less : tie.Need-loop-less Inv-loop μ-loop
 loop-less c = search needs
 
@@ -261,7 +273,8 @@ loop-again c =
     let l = here e in
     let a = start l .args in (
       c .if4 .left,
-      as-opened (a .s) (a .who) (l .before .opened .ensures) (walk-moves (start l .pre) (standing l) (e .before .loop-test .taken) (answered j) (c .if4 .left)),
+      as-opened (a .s) (a .who) (l .before .opened .ensures) (walk-moves (start l .pre .0) (standing l) (e .before .loop-test .taken) (answered j) (c .if4 .left)),
+      running-next (recordCount (a .bytes .now)) (l .loop .i) (l .loop .inv .2),
     )
 
 closed-requires : tie.Need-closed-requires Inv-loop μ-loop
@@ -281,11 +294,11 @@ returns c =
     ⊎-elim
     (λ w.
     subst (λ (x : Reporting). WalkEnds (record { state = s; chosen = x .chosen; at = l .loop .i; rule = x .rule }) (a .s) (a .bytes .now) (a .from) (a .to)) (sym (w .1))
-    (walk-ends (start l .pre) (standing l) (l .loop .inv .0) (w .0 .left) (subst (Closes s) (w .1) (c .closed .ensures))))
+    (walk-ends (start l .pre .0) (standing l) (l .loop .inv .0) (w .0 .left) (subst (Closes s) (w .1) (c .closed .ensures))))
     (λ w.
     let j : tie.Joined1 Inv-loop μ-loop = record { before = record { before = record { before = record { before = l; loop-test = w .0 }; entry-at = w .1 }; hears = w .2 }; if1 = w .3 } in
     subst (λ (x : Reporting). WalkEnds (record { state = s; chosen = x .chosen; at = l .loop .i; rule = x .rule }) (a .s) (a .bytes .now) (a .from) (a .to)) (sym (w .6))
-    (walk-breaks (start l .pre) (standing l) (w .0 .taken) (answered j) (w .5 .taken) (subst (Closes s) (w .6) (c .closed .ensures))))
+    (walk-breaks (start l .pre .0) (standing l) (w .0 .taken) (answered j) (w .5 .taken) (subst (Closes s) (w .6) (c .closed .ensures))))
     (f .loop-test .came)
 
 pub walk-spec : {M : Type 1} → statement M
@@ -327,6 +340,7 @@ walk-spec =
     enum-told-4
     unasked-requires
     add-i
+    add-running
     loop-less
     loop-again
     closed-requires
