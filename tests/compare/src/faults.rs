@@ -10,10 +10,11 @@ use crate::shrink::shrunk;
 use crate::{dumps, known, lent, lists};
 
 /// The random families that a mistake is put to, and how many inputs of each.
-const TRIALS: [(&str, Trial, u64); 7] = [
+const TRIALS: [(&str, Trial, u64); 8] = [
     ("honest", dumps::honest, 1200),
     ("cut short", dumps::cut, 300),
     ("damaged in a record", dumps::damaged_record, 600),
+    ("random bytes", dumps::random_bytes, 1200),
     ("call lists", lists::call_list, 400),
     ("bench output", lists::output, 200),
     ("lent, reached", lent::reached, 600),

@@ -14,6 +14,14 @@ pub enum Fault {
     CountByteOrder,
     /// Operands are read and written high byte first.
     OperandByteOrder,
+    /// Operands are read one byte apart.
+    OperandsByOne,
+    /// Operands are read from byte 2 + 2N on.
+    OperandsFromTwoPlusTwoN,
+    /// Each record is read with the operand of the next one.
+    OperandsOneBehind,
+    /// Question 8 is asked of a record before question 7 is asked of the next one.
+    Questions7And8ByRecord,
     /// A Take is won by a base at or above the ceilings.
     TakeAtOrAbove,
     /// A waiting thread wins at a Give with a base at or above the ceilings.
@@ -94,10 +102,14 @@ pub enum Fault {
 
 impl Fault {
     /// Every mistake, without `None`.
-    pub const ALL: [Fault; 41] = [
+    pub const ALL: [Fault; 45] = [
         Fault::NeedsByteOrder,
         Fault::CountByteOrder,
         Fault::OperandByteOrder,
+        Fault::OperandsByOne,
+        Fault::OperandsFromTwoPlusTwoN,
+        Fault::OperandsOneBehind,
+        Fault::Questions7And8ByRecord,
         Fault::TakeAtOrAbove,
         Fault::GiveAtOrAbove,
         Fault::HeirTie,

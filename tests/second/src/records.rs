@@ -180,15 +180,35 @@ fn read(bytes: &[u8], plan: &Plan, kind_allowed: fn(u8) -> bool, fault: Fault) -
         return Err(6);
     }
     let (kinds, operands) = bytes[2..].split_at(n);
-    if !kinds.iter().all(|kind| kind_allowed(*kind)) {
+    let by_record = fault == Fault::Questions7And8ByRecord;
+    if !by_record && !kinds.iter().all(|kind| kind_allowed(*kind)) {
         return Err(7);
     }
     let swapped = fault == Fault::OperandByteOrder;
+    let operands = as_placed(operands, n, fault);
     let operands = operands.chunks(2).map(|b| two_bytes(b[0], b[1], swapped));
     kinds
         .iter()
         .zip(operands)
-        .map(|(kind, n)| Record::from_numbers(*kind, n, plan))
+        .map(|(kind, n)| match kind_allowed(*kind) {
+            true => Record::from_numbers(*kind, n, plan),
+            false => Err(7),
+        })
+        .collect()
+}
+
+// The bytes that are taken for the operands: those that are, or with a mistake others, 0 past the end.
+fn as_placed(operands: &[u8], n: usize, fault: Fault) -> Vec<u8> {
+    let (first, apart) = match fault {
+        Fault::OperandsByOne => (0, 1),
+        Fault::OperandsFromTwoPlusTwoN => (n, 2),
+        Fault::OperandsOneBehind => (2, 2),
+        _ => return operands.to_vec(),
+    };
+    let byte = |place: usize| operands.get(place).copied().unwrap_or(0);
+    (0..n)
+        .map(|i| first + apart * i)
+        .flat_map(|place| [byte(place), byte(place + 1)])
         .collect()
 }
 

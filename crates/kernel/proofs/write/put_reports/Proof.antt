@@ -1,6 +1,6 @@
 -- `put_reports` meets its contract: each turn puts the first report due at its place and gives it.
 use mathlib.Core.Path.{ap}
-use Prim.Native.Nat.{_+_, _<_}
+use Prim.Native.Nat.{_+_, _<_, _^_}
 use native.Mathlib.Omega.{arith}
 use lib.ListN.{length}
 use Rattle.machine.specs.View.{view}
@@ -38,17 +38,18 @@ put-requires c κs = fits (c .before .before)
 delivered-requires : tie.Need-delivered-requires Inv-loop μ-loop
 delivered-requires c κs = let f = c .before .before .before .before in (owes (f .before), f .first-due .ensures)
 
+-- both places are within a slice, so that the next ones are numbers still
+room : (t : tie.Then1 Inv-loop μ-loop) → (t .before .before .loop .at + 1 < 2 ^ 64) × (t .before .before .loop .to + 2 < 2 ^ 64)
+room t =
+    let l = t .before .before in
+    let short = l .before .before .good .1 .0 in
+    (omega (arith, fits t .0, l .loop .inv .size, short), omega (arith, fits t .1, l .loop .inv .size, short))
+
 add-at : tie.Need-add-at Inv-loop μ-loop
-add-at c =
-    let k = c .before in
-    let t = k .before .before .before .before .before in
-    record { fits = omega (arith, fits t .0, t .before .before .loop .inv .size, t .before .before .before .before .good .1 .0) }
+add-at c = record { fits = room (c .before .before .before .before .before .before) .0 }
 
 add-to : tie.Need-add-to Inv-loop μ-loop
-add-to c =
-    let k = c .before in
-    let t = k .before .before .before .before .before in
-    record { fits = omega (arith, fits t .1, t .before .before .loop .inv .size, t .before .before .before .before .good .1 .0) }
+add-to c = record { fits = room (c .before .before .before .before .before .before) .1 }
 
 loop-less : tie.Need-loop-less Inv-loop μ-loop
 loop-less c =
