@@ -1,6 +1,5 @@
 -- `bounds_for` meets its contract: what question 7 does not allow admits nothing, and of the rest question 8 is asked.
 use mathlib.Core.Path.{sym, _∙_}
-use mathlib.Core.Bool.{false}
 use borrow.Author.Needs.{needs}
 use Rattle.dump.proofs.Operands.{none-fits}
 use Rattle.dump.proofs.questions.bounds_for.Statement.{statement}
