@@ -17,8 +17,8 @@ pub struct Walked {
     pub rule: u8,
 }
 
-// Walks from one record, with its running place, to another until one breaks a rule: see model, Runs.run. The match over the record stands in the loop, so that each
-// call's method has one caller and no record costs a copy of the machine.
+// Walks from one record to another until one breaks a rule: see model, Runs.run. `place` is the running place of the first one. The match over
+// the record stands in the loop, so that each call's method has one caller and no record costs a copy of the machine.
 pub fn walk(
     s: State,
     ceilings: &[u8; 16],
