@@ -22,7 +22,7 @@
 
 /* The number of this interface. It rises whenever the layout of struct beltcairn_watch or the signature of a function moves. A program and a
  * library fit together if beltcairn_abi() answers the number that the program was compiled with. */
-#define BELTCAIRN_ABI 2
+#define BELTCAIRN_ABI 3
 
 /* Kinds of calls, with what the operand is. Calls are made by the running thread; Tick comes from the clock, and Create may also come when
  * nobody runs.
@@ -35,7 +35,7 @@
 #define BELTCAIRN_KIND_END 4        /* 0: the caller becomes dormant */
 #define BELTCAIRN_KIND_TAKE 5       /* section below S: the caller wins if its base priority is above every ceiling held by others */
 #define BELTCAIRN_KIND_GIVE 6       /* section below S: the hold ends, and may pass to a waiting thread */
-#define BELTCAIRN_KIND_TICK 7       /* 0: the tick number grows by one, timers expire and sleepers wake */
+#define BELTCAIRN_KIND_TICK 7       /* 0: the tick number grows by one, timers expire and sleepers wake in the order of their Delays */
 #define BELTCAIRN_KIND_ARM 8        /* timer below BELTCAIRN_TIMERS: the one to arm; Start and then Period follow at once */
 #define BELTCAIRN_KIND_START 9      /* tick number, 1 to 65535: when the timer is to expire first */
 #define BELTCAIRN_KIND_PERIOD 10    /* the ticks from an expiry to the next, 0 for an alarm; Late is due */
@@ -78,7 +78,9 @@
 /* (step) Is the lent watch state well formed? No: its plan fails 1 to 4; a thread or section is not below T or S, or a timer not below 8; a
  * report or stored rule is none of those here, or a report's operand is not allowed for its kind; the tick number is above 4,000,000,000, a
  * sleeper's above 4,000,065,536 or an expiry above 4,000,065,535; a section is held twice; a thread is listed twice in the line or the waits,
- * or is not in exactly one of its four conditions; an arming is at a stage above 2; or more than T + 9 reports are due. Asked before 7. */
+ * or is not in exactly one of its four conditions; the order of Delays does not name each sleeper just once and nobody else; an arming is at a
+ * stage above 2; more than T + 9 reports are due; or none is due and the chosen thread (the first in the line of greatest current priority,
+ * nobody if the line is empty) is not the one last reported. Asked before 7. */
 #define BELTCAIRN_REFUSED_STATE 12
 #define BELTCAIRN_REFUSED_TICK 13 /* (step) Is it no Tick at tick number 4,000,000,000? Asked after 8. */
 
@@ -159,7 +161,7 @@ struct beltcairn_timers {
     struct beltcairn_arming arming;      /* offset 48 */
 };
 
-/* What the machine remembers, but for the reports due. 264 bytes. */
+/* What the machine remembers, but for the reports due. 280 bytes. */
 struct beltcairn_machine {
     struct beltcairn_plan plan;     /* offset   0 */
     uint32_t tick;                  /* offset  64: the tick number, Tick records so far */
@@ -168,22 +170,23 @@ struct beltcairn_machine {
     struct beltcairn_queue queue;   /* offset 152: the line, the ready threads in order of arrival */
     struct beltcairn_holds holds;   /* offset 168 */
     struct beltcairn_queue waits;   /* offset 192: the waiting threads in order of their Take */
-    uint8_t reported;               /* offset 208: the thread of the latest Switch given, 255 for nobody */
-    struct beltcairn_timers timers; /* offset 212 */
+    struct beltcairn_queue delays;  /* offset 208: the sleeping threads in order of their Delay */
+    uint8_t reported;               /* offset 224: the thread of the latest Switch given, 255 for nobody */
+    struct beltcairn_timers timers; /* offset 228 */
 };
 
-/* The machine and its reports. 384 bytes. */
+/* The machine and its reports. 400 bytes. */
 struct beltcairn_state {
     struct beltcairn_machine machine; /* offset   0 */
-    struct beltcairn_reports due;     /* offset 264: the reports of the latest call, in order */
-    size_t given;                     /* offset 376: how many of them were given; those behind are due */
+    struct beltcairn_reports due;     /* offset 280: the reports of the latest call, in order */
+    size_t given;                     /* offset 392: how many of them were given; those behind are due */
 };
 
-/* The watch state. 392 bytes, aligned to 8. It holds no pointer, so it can be copied and kept. The bytes between its fields mean nothing:
+/* The watch state. 408 bytes, aligned to 8. It holds no pointer, so it can be copied and kept. The bytes between its fields mean nothing:
  * compare states field by field, as far as their entries are in use. */
 struct beltcairn_watch {
     struct beltcairn_state state; /* offset   0 */
-    uint8_t rule;                 /* offset 384: the rule of a breach that is stored, 0 if there is none */
+    uint8_t rule;                 /* offset 400: the rule of a breach that is stored, 0 if there is none */
 };
 
 BELTCAIRN_ASSERT(sizeof(struct beltcairn_plan) == 64);
@@ -194,9 +197,9 @@ BELTCAIRN_ASSERT(sizeof(struct beltcairn_report) == 4);
 BELTCAIRN_ASSERT(sizeof(struct beltcairn_reports) == 112);
 BELTCAIRN_ASSERT(sizeof(struct beltcairn_arming) == 4);
 BELTCAIRN_ASSERT(sizeof(struct beltcairn_timers) == 52);
-BELTCAIRN_ASSERT(sizeof(struct beltcairn_machine) == 264);
-BELTCAIRN_ASSERT(sizeof(struct beltcairn_state) == 384);
-BELTCAIRN_ASSERT(sizeof(struct beltcairn_watch) == 392);
+BELTCAIRN_ASSERT(sizeof(struct beltcairn_machine) == 280);
+BELTCAIRN_ASSERT(sizeof(struct beltcairn_state) == 400);
+BELTCAIRN_ASSERT(sizeof(struct beltcairn_watch) == 408);
 
 /* The number of the library's interface: BELTCAIRN_ABI of the header that it fits. */
 uint32_t beltcairn_abi(void);

@@ -46,7 +46,7 @@ static int same_lists(const struct beltcairn_machine *a, const struct beltcairn_
 {
     return a->queue.items == b->queue.items && a->queue.count == b->queue.count && a->holds.sections == b->holds.sections &&
            a->holds.threads == b->holds.threads && a->holds.count == b->holds.count && a->waits.items == b->waits.items &&
-           a->waits.count == b->waits.count;
+           a->waits.count == b->waits.count && a->delays.items == b->delays.items && a->delays.count == b->delays.count;
 }
 
 static int same_timers(const struct beltcairn_timers *a, const struct beltcairn_timers *b)
@@ -258,6 +258,9 @@ int main(void)
     for (size_t i = 0; i < sizeof runs / sizeof runs[0]; i++) {
         check_run(&runs[i]);
     }
+    for (size_t i = 0; i < sizeof sleeper_runs / sizeof sleeper_runs[0]; i++) {
+        check_run(&sleeper_runs[i]);
+    }
     for (size_t i = 0; i < sizeof timer_runs / sizeof timer_runs[0]; i++) {
         check_run(&timer_runs[i]);
     }
@@ -269,6 +272,7 @@ int main(void)
     most_records();
     check_layout();
     check_timers();
+    check_delays();
     printf("%d passed, %d failed\n", passed, failed);
     return failed > 0;
 }

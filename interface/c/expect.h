@@ -1,4 +1,4 @@
-/* What calls.c, layout.c and timers.c share. */
+/* What calls.c, layout.c, timers.c and delays.c share. */
 #ifndef EXPECT_H
 #define EXPECT_H
 
@@ -26,6 +26,10 @@ enum {
     LATE = BELTCAIRN_KIND_LATE
 };
 
+/* Conditions of threads, and nobody where a byte names the thread. */
+enum { DORMANT, IS_READY, ASLEEP, WAITING };
+enum { NOBODY_REPORTED = 255 };
+
 /* What a number that is not to change has before a call. */
 enum { KEPT = 4711 };
 
@@ -42,6 +46,15 @@ void step(struct beltcairn_watch *watch, uint8_t kind, uint16_t operand, uint64_
 /* A step that question `answer` refuses; nothing changes. */
 void refused_step(struct beltcairn_watch watch, uint8_t answer, uint8_t kind, uint16_t operand);
 
+/* A record that breaks this rule; nothing but `rule` changes, which is then as it was again. */
+void breaks(struct beltcairn_watch *watch, uint8_t rule, uint8_t kind, uint16_t operand);
+
+/* Entry i of a word, from 0. */
+uint64_t entry(uint64_t word, size_t i);
+
+/* Whether a list has so many threads, those of this word; at most sixteen. */
+int lists(const struct beltcairn_queue *queue, size_t count, uint64_t named);
+
 /* Whether report i of those due, from 0, is this one. */
 int owes(const struct beltcairn_state *state, size_t i, uint8_t kind, uint16_t operand);
 
@@ -51,10 +64,16 @@ struct beltcairn_watch largest(void);
 /* A state made by hand: thread 0 runs and holds the section that thread 2 waits for, thread 1 sleeps until tick number 9, and it is 7. */
 struct beltcairn_watch made(void);
 
+/* `made` with one report due. */
+struct beltcairn_watch made_owing(uint8_t kind, uint16_t operand);
+
 /* layout.c: the number of the interface, the states that the library makes, and states made there and lent to it. */
 void check_layout(void);
 
 /* timers.c: the same for the timers and their reports. */
 void check_timers(void);
+
+/* delays.c: the same for the order of Delays and the thread reported. */
+void check_delays(void);
 
 #endif

@@ -3,10 +3,6 @@
 
 #include <string.h>
 
-/* Conditions of threads; nobody where a byte names the thread. */
-enum { DORMANT, IS_READY, ASLEEP, WAITING };
-enum { NOBODY = 255 };
-
 /* What the number of the interface stands for: these sizes, fields (each with its offset and size) and signatures. Every line states the
  * number, so that a line cannot be changed, because something moved, without a look at it. It rises then: here, in the header, in the Rust
  * wrapper and in crates/exports. */
@@ -16,24 +12,24 @@ enum { NOBODY = 255 };
     (offsetof(struct beltcairn_##type, field) == (offset) && sizeof(((struct beltcairn_##type *)0)->field) == (size))
 #define TYPE(function, ...) _Generic(&beltcairn_##function, __VA_ARGS__ : 1, default : 0)
 
-ABI(2, SIZE(plan, 64) && AT(plan, threads, 0, 8) && AT(plan, sections, 8, 8) && AT(plan, bases, 16, 16) && AT(plan, needs, 32, 32));
-ABI(2, SIZE(slots, 16) && AT(slots, states, 0, 8) && AT(slots, wants, 8, 8));
-ABI(2, SIZE(queue, 16) && AT(queue, items, 0, 8) && AT(queue, count, 8, 8));
-ABI(2, SIZE(holds, 24) && AT(holds, sections, 0, 8) && AT(holds, threads, 8, 8) && AT(holds, count, 16, 8));
-ABI(2, SIZE(report, 4) && AT(report, kind, 0, 1) && AT(report, operand, 2, 2));
-ABI(2, SIZE(reports, 112) && AT(reports, items, 0, 100) && AT(reports, count, 104, 8));
-ABI(2, SIZE(arming, 4) && AT(arming, stage, 0, 1) && AT(arming, timer, 1, 1) && AT(arming, start, 2, 2));
-ABI(2, SIZE(timers, 52) && AT(timers, expiries, 0, 32) && AT(timers, periods, 32, 16) && AT(timers, arming, 48, 4));
-ABI(2, SIZE(machine, 264) && AT(machine, plan, 0, 64) && AT(machine, tick, 64, 4) && AT(machine, slots, 72, 16));
-ABI(2, AT(machine, wakes, 88, 64) && AT(machine, queue, 152, 16) && AT(machine, holds, 168, 24) && AT(machine, waits, 192, 16));
-ABI(2, AT(machine, reported, 208, 1) && AT(machine, timers, 212, 52));
-ABI(2, SIZE(state, 384) && AT(state, machine, 0, 264) && AT(state, due, 264, 112) && AT(state, given, 376, 8));
-ABI(2, SIZE(watch, 392) && AT(watch, state, 0, 384) && AT(watch, rule, 384, 1) && _Alignof(struct beltcairn_watch) == 8);
-ABI(2, TYPE(abi, uint32_t (*)(void)));
-ABI(2, TYPE(check, uint8_t (*)(const uint8_t *, size_t, const uint8_t *, size_t, uint64_t *, uint64_t *)));
-ABI(2, TYPE(bench, uint8_t (*)(const uint8_t *, size_t, const uint8_t *, size_t, uint8_t *, size_t, uint64_t *)));
-ABI(2, TYPE(begin, uint8_t (*)(const uint8_t *, size_t, struct beltcairn_watch *)));
-ABI(2, TYPE(step, uint8_t (*)(struct beltcairn_watch *, uint8_t, uint16_t, uint64_t *)));
+ABI(3, SIZE(plan, 64) && AT(plan, threads, 0, 8) && AT(plan, sections, 8, 8) && AT(plan, bases, 16, 16) && AT(plan, needs, 32, 32));
+ABI(3, SIZE(slots, 16) && AT(slots, states, 0, 8) && AT(slots, wants, 8, 8));
+ABI(3, SIZE(queue, 16) && AT(queue, items, 0, 8) && AT(queue, count, 8, 8));
+ABI(3, SIZE(holds, 24) && AT(holds, sections, 0, 8) && AT(holds, threads, 8, 8) && AT(holds, count, 16, 8));
+ABI(3, SIZE(report, 4) && AT(report, kind, 0, 1) && AT(report, operand, 2, 2));
+ABI(3, SIZE(reports, 112) && AT(reports, items, 0, 100) && AT(reports, count, 104, 8));
+ABI(3, SIZE(arming, 4) && AT(arming, stage, 0, 1) && AT(arming, timer, 1, 1) && AT(arming, start, 2, 2));
+ABI(3, SIZE(timers, 52) && AT(timers, expiries, 0, 32) && AT(timers, periods, 32, 16) && AT(timers, arming, 48, 4));
+ABI(3, SIZE(machine, 280) && AT(machine, plan, 0, 64) && AT(machine, tick, 64, 4) && AT(machine, slots, 72, 16));
+ABI(3, AT(machine, wakes, 88, 64) && AT(machine, queue, 152, 16) && AT(machine, holds, 168, 24) && AT(machine, waits, 192, 16));
+ABI(3, AT(machine, delays, 208, 16) && AT(machine, reported, 224, 1) && AT(machine, timers, 228, 52));
+ABI(3, SIZE(state, 400) && AT(state, machine, 0, 280) && AT(state, due, 280, 112) && AT(state, given, 392, 8));
+ABI(3, SIZE(watch, 408) && AT(watch, state, 0, 400) && AT(watch, rule, 400, 1) && _Alignof(struct beltcairn_watch) == 8);
+ABI(3, TYPE(abi, uint32_t (*)(void)));
+ABI(3, TYPE(check, uint8_t (*)(const uint8_t *, size_t, const uint8_t *, size_t, uint64_t *, uint64_t *)));
+ABI(3, TYPE(bench, uint8_t (*)(const uint8_t *, size_t, const uint8_t *, size_t, uint8_t *, size_t, uint64_t *)));
+ABI(3, TYPE(begin, uint8_t (*)(const uint8_t *, size_t, struct beltcairn_watch *)));
+ABI(3, TYPE(step, uint8_t (*)(struct beltcairn_watch *, uint8_t, uint16_t, uint64_t *)));
 
 /* The linked library has the header's number. */
 static void one_interface(void)
@@ -41,17 +37,15 @@ static void one_interface(void)
     EXPECT("abi", beltcairn_abi() == BELTCAIRN_ABI);
 }
 
-/* Entry i of a word. */
-static uint64_t entry(uint64_t word, size_t i)
+uint64_t entry(uint64_t word, size_t i)
 {
     return (word >> 4 * i) & 15;
 }
 
-/* One line of threads: their number, and the first three as a word. */
-static int lists(const struct beltcairn_queue *queue, size_t count, uint64_t named)
+int lists(const struct beltcairn_queue *queue, size_t count, uint64_t named)
 {
     int as_named = queue->count == count;
-    for (size_t i = 0; i < count && i < 3; i++) {
+    for (size_t i = 0; i < count; i++) {
         as_named = as_named && entry(queue->items, i) == entry(named, i);
     }
     return as_named;
@@ -105,8 +99,8 @@ static void largest_plan(void)
     for (int i = 0; i < 16; i++) {
         EXPECT("largest plan", m->plan.bases[i] == i + 1 && m->plan.needs[i] == 1 << i && is_in(m, (size_t)i, DORMANT));
     }
-    EXPECT("largest plan", m->tick == 0 && m->queue.count == 0 && m->holds.count == 0 && m->waits.count == 0 && m->reported == NOBODY);
-    EXPECT("largest plan", watch.state.due.count == 0 && watch.state.given == 0 && watch.rule == 0);
+    EXPECT("largest plan", m->tick == 0 && m->queue.count == 0 && m->holds.count == 0 && m->waits.count == 0 && m->delays.count == 0);
+    EXPECT("largest plan", m->reported == NOBODY_REPORTED && watch.state.due.count == 0 && watch.state.given == 0 && watch.rule == 0);
 }
 
 void step(struct beltcairn_watch *watch, uint8_t kind, uint16_t operand, uint64_t due)
@@ -183,9 +177,10 @@ static void states_of_one_thread(void)
     step(&watch, TAKE, 0, 1), step(&watch, WON, 0, 0), step(&watch, TAKE, 1, 1), step(&watch, WON, 0, 0);
     EXPECT("one thread", m->holds.count == 2 && holds(&m->holds, 0, 1, 0) && holds(&m->holds, 1, 0, 0));
     step(&watch, GIVE, 1, 0), step(&watch, GIVE, 0, 0), step(&watch, DELAY, 300, 1);
-    EXPECT("one thread", m->holds.count == 0 && m->queue.count == 0 && sleeps_until(m, 0, 301) && owes(&watch.state, 0, SWITCH, BELTCAIRN_NOBODY));
+    EXPECT("one thread", m->holds.count == 0 && m->queue.count == 0 && sleeps_until(m, 0, 301) && lists(&m->delays, 1, 0x0));
+    EXPECT("one thread", owes(&watch.state, 0, SWITCH, BELTCAIRN_NOBODY));
     step(&watch, SWITCH, BELTCAIRN_NOBODY, 0), step(&watch, TICK, 0, 0);
-    EXPECT("one thread", m->tick == 1 && m->reported == NOBODY && watch.rule == 0);
+    EXPECT("one thread", m->tick == 1 && m->reported == NOBODY_REPORTED && watch.rule == 0);
     EXPECT("one thread", beltcairn_step(&watch, READY, 0, &due) == BELTCAIRN_BREACH_NONE_DUE && due == KEPT);
     EXPECT("one thread", m->tick == 1 && watch.rule == BELTCAIRN_BREACH_NONE_DUE);
 }
@@ -206,6 +201,8 @@ struct beltcairn_watch made(void)
     m->holds.count = 1;
     m->waits.items = 2;
     m->waits.count = 1;
+    m->delays.items = 1;
+    m->delays.count = 1;
     return watch;
 }
 
@@ -221,6 +218,7 @@ static struct beltcairn_watch made_with_unused(uint64_t number, uint32_t tick)
     m->holds.sections |= behind_first;
     m->holds.threads |= behind_first;
     m->waits.items |= behind_first;
+    m->delays.items |= behind_first;
     for (int i = 0; i < 16; i++) {
         m->wakes[i] = i == 1 ? 9 : tick;
     }
@@ -232,9 +230,10 @@ static void clean_lent_state(struct beltcairn_watch watch)
 {
     const struct beltcairn_machine *m = &watch.state.machine;
     step(&watch, TICK, 0, 0);
-    EXPECT("lent", m->tick == 8 && sleeps_until(m, 1, 9) && lists(&m->queue, 1, 0x0));
+    EXPECT("lent", m->tick == 8 && sleeps_until(m, 1, 9) && lists(&m->queue, 1, 0x0) && lists(&m->delays, 1, 0x1));
     step(&watch, TICK, 0, 1);
-    EXPECT("lent", m->tick == 9 && is_in(m, 1, IS_READY) && lists(&m->queue, 2, 0x10) && owes(&watch.state, 0, READY, 1));
+    EXPECT("lent", m->tick == 9 && is_in(m, 1, IS_READY) && lists(&m->queue, 2, 0x10) && m->delays.count == 0);
+    EXPECT("lent", owes(&watch.state, 0, READY, 1));
     step(&watch, READY, 1, 0), step(&watch, GIVE, 0, 3);
     EXPECT("lent", m->holds.count == 1 && holds(&m->holds, 0, 0, 2) && m->waits.count == 0 && lists(&m->queue, 3, 0x210));
     EXPECT("lent", is_in(m, 0, IS_READY) && is_in(m, 1, IS_READY) && is_in(m, 2, IS_READY) && owes(&watch.state, 2, SWITCH, 2));

@@ -22,8 +22,7 @@ static void arm(struct beltcairn_watch *watch, uint16_t timer, uint16_t start, u
     step(watch, LATE, late, 0);
 }
 
-/* A record that breaks this rule; nothing but `rule` changes, which is then as it was again. */
-static void breaks(struct beltcairn_watch *watch, uint8_t rule, uint8_t kind, uint16_t operand)
+void breaks(struct beltcairn_watch *watch, uint8_t rule, uint8_t kind, uint16_t operand)
 {
     const struct beltcairn_watch before = *watch;
     uint64_t due = KEPT;
@@ -172,8 +171,7 @@ static void stored_rules(void)
     }
 }
 
-/* `made` with one report due. */
-static struct beltcairn_watch made_owing(uint8_t kind, uint16_t operand)
+struct beltcairn_watch made_owing(uint8_t kind, uint16_t operand)
 {
     struct beltcairn_watch watch = made();
     watch.state.due.items[0].kind = kind;

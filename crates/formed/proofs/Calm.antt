@@ -1,14 +1,14 @@
 -- Where nobody waits: no condition is a wait, so each is in range where no tick number is above the greatest.
 use mathlib.Core.Path.{_≡_, subst}
 use mathlib.Core.Logic.{_⊎_, inl, inr}
-use mathlib.Core.Bool.{Bool, true, cond, not}
+use mathlib.Core.Bool.{Bool, true, not, _&&_}
 use mathlib.Core.List.{List, [], _∷_, map}
-use Prim.Native.Nat.{ℕ, _≤_}
+use Prim.Native.Nat.{ℕ, _≤_, _<_}
 use native.Mathlib.Omega.{arith}
 use borrow.Author.Tests.{le-leb}
-use lib.Dec.{T, eqb, leb, ltb, ltb→lt, nltb→le}
+use lib.Dec.{T, leb, ltb, ltb→lt, nltb→le}
 use Rattle.model.specs.Searches.{all, upTo}
-use Rattle.model.specs.Formed.{lastWake, conditionInRange, times}
+use Rattle.model.specs.Formed.{lastWake, conditionInRange}
 use Rattle.model.proofs.Tests.{split, is-true, from-true, and-left, and-right, and-both}
 use Rattle.model.proofs.Searches.{all-from}
 use Rattle.model.proofs.Loops.{all-of-more}
@@ -20,7 +20,7 @@ use Rattle.machine.specs.declared.Machine.{Machine}
 use Rattle.machine.specs.declared.slots.Slots.{Slots}
 use Rattle.clock.specs.declared.time.Tick.{Tick}
 use Rattle.machine.specs.View.{conditionOf, conditionIn, conditionsOf}
-use Rattle.formed.specs.Contracts.{standsBy, Stood, Calm}
+use Rattle.formed.specs.Contracts.{namesBy, namesThose, Stood, Calm}
 use Rattle.machine.proofs.Laws.{by-state}
 
 -- a test that follows from two
@@ -31,23 +31,24 @@ module _ {A : Type 0} (f : A → Bool) where
       and-both (g (c a)) (all g (map c l)) (h a (and-left (f a) (all f l) t) (and-left (e (d a)) (all e (map d l)) u))
       (both-follow d e c g l h (and-right (f a) (all f l) t) (and-right (e (d a)) (all e (map d l)) u))
 
--- a thread that stands nowhere in empty waits is in no wait
-stands-calm : (q : List ℕ) (s t : ℕ) → T (standsBy q [] s t) → T (ltb s 3)
-stands-calm q s t a = go (split (ltb s 3))
+-- a thread that empty waits do not name is in no wait
+stands-calm : (s t : ℕ) → s < 16 → T (namesBy [] 3 15 s t) → T (ltb s 3)
+stands-calm s t l a = go (split (ltb s 3))
   where
     go : T (ltb s 3) ⊎ T (not (ltb s 3)) → T (ltb s 3)
     go (inl b) = b
-    go (inr b) =
-        let h : 3 ≤ s = nltb→le s 3 b in
-        absurd (rw (le-leb 3 s h) at (and-right (eqb (times (λ u. eqb u t) q) (cond (eqb s 1) 1 0)) (eqb 0 (cond (leb 3 s) 1 0)) a))
+    go (inr b) = absurd (rw (le-leb 3 s (nltb→le s 3 b), le-leb s 15 (omega arith)) at a)
 
 pub calm-stood : (m : Machine) → Stood m → m .waits .count ≡ 0 → Calm (m .slots .states) (m .plan .threads)
 calm-stood m e z =
-    let stands : T (all (λ t. standsBy (queued (m .queue)) [] (nibble (m .slots .states) t) t) (upTo (m .plan .threads)))
-    = subst (λ ws. T (all (λ t. standsBy (queued (m .queue)) ws (nibble (m .slots .states) t) t) (upTo (m .plan .threads)))) (queued-empty (m .waits) z) (from-true _ e) in
-    is-true (all (λ t. ltb (nibble (m .slots .states) t) 3) (upTo (m .plan .threads)))
-    (all-from (λ t. standsBy (queued (m .queue)) [] (nibble (m .slots .states) t) t) (λ t. ltb (nibble (m .slots .states) t) 3)
-    (λ t a. stands-calm (queued (m .queue)) (nibble (m .slots .states) t) t a) (upTo (m .plan .threads)) stands)
+    let n = m .plan .threads in
+    let states = m .slots .states in
+    let lined : Bool = namesThose n states (queued (m .queue)) 1 1 in
+    let waiting : Bool = namesThose n states (queued (m .waits)) 3 15 in
+    let both = and-left (lined && waiting) (namesThose n states (queued (m .delays)) 2 2) (from-true _ e) in
+    let stands : T (namesThose n states [] 3 15) = subst (λ ws. T (namesThose n states ws 3 15)) (queued-empty (m .waits) z) (and-right lined waiting both) in
+    is-true (all (λ t. ltb (nibble states t) 3) (upTo n))
+    (all-from (λ t. namesBy [] 3 15 (nibble states t) t) (λ t. ltb (nibble states t) 3) (λ t a. stands-calm (nibble states t) t (omega arith) a) (upTo n) stands)
 
 -- a condition that is no wait is in range where its tick number is
 in-range : (sections s n w : ℕ) → T (ltb s 3) → T (leb w lastWake) → T (conditionInRange sections (conditionOf s n w))

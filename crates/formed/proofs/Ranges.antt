@@ -1,27 +1,36 @@
 -- What question 12 asks of a condition, said of the numbers that it is read from.
-use mathlib.Core.Path.{_≡_, ap, sym, _∙_}
+use mathlib.Core.Path.{_≡_, ap, ap₂, sym, _∙_}
 use mathlib.Core.Logic.{_≢_}
-use mathlib.Core.Bool.{cond}
-use Prim.Native.Nat.{ℕ, _≤_}
+use mathlib.Core.Bool.{false, cond, _&&_}
+use Prim.Native.Nat.{ℕ, _≤_, _<_}
 use native.Mathlib.Omega.{arith}
-use borrow.Author.Tests.{le-leb, le-ltb, ne-eqb}
-use lib.Dec.{eqb, leb, ltb}
-use Rattle.model.specs.Formed.{lastWake, conditionInRange, inQueue, inWaits}
+use borrow.Author.Tests.{le-leb, lt-leb, le-ltb}
+use lib.Dec.{leb, ltb}
+use Rattle.model.specs.Formed.{lastWake, conditionInRange, inQueue, inWaits, inDelays}
 use Rattle.machine.specs.View.{conditionOf}
 use Rattle.machine.proofs.Laws.{at-none, by-state}
 
 -- of a state, the section wanted and the tick number
 module _ (s n w : ℕ) where
-  -- how often it stands in the queue and in the waits
-  pub queued-by : inQueue (conditionOf s n w) ≡ cond (eqb s 1) 1 0
-  queued-by =
-      by-state s n w (inQueue (conditionOf s n w) ≡ cond (eqb s 1) 1 0) (λ e. rw e) (λ e. rw e) (λ e. rw e) (λ e. rw e)
-      (λ h. ap inQueue (at-none s n w h) ∙ sym (ap (λ b. cond b 1 0) (ne-eqb s 1 (λ e. omega arith))))
+  -- how often it stands in the queue, in the waits and in the order of Delays
 
-  pub waits-by : inWaits (conditionOf s n w) ≡ cond (leb 3 s) 1 0
-  waits-by =
-      by-state s n w (inWaits (conditionOf s n w) ≡ cond (leb 3 s) 1 0) (λ e. rw e) (λ e. rw e) (λ e. rw e) (λ e. rw e)
-      (λ h. ap inWaits (at-none s n w h) ∙ sym (ap (λ b. cond b 1 0) (le-leb 3 s (omega arith))))
+  above : {m : ℕ} → m ≤ 3 → 3 < s → leb m s && leb s m ≡ false
+  above {m} l h = rw (le-leb m s (omega arith)) (lt-leb s m (omega arith))
+
+  pub queued-by : s < 16 → inQueue (conditionOf s n w) ≡ cond (leb 1 s && leb s 1) 1 0
+  queued-by l =
+      by-state s n w (inQueue (conditionOf s n w) ≡ cond (leb 1 s && leb s 1) 1 0) (λ e. rw e) (λ e. rw e) (λ e. rw e) (λ e. rw e)
+      (λ h. ap inQueue (at-none s n w h) ∙ sym (ap (λ b. cond b 1 0) (above (omega arith) h)))
+
+  pub waits-by : s < 16 → inWaits (conditionOf s n w) ≡ cond (leb 3 s && leb s 15) 1 0
+  waits-by l =
+      by-state s n w (inWaits (conditionOf s n w) ≡ cond (leb 3 s && leb s 15) 1 0) (λ e. rw e) (λ e. rw e) (λ e. rw e) (λ e. rw e)
+      (λ h. ap inWaits (at-none s n w h) ∙ sym (ap₂ (λ a b. cond (a && b) 1 0) (le-leb 3 s (omega arith)) (le-leb s 15 (omega arith))))
+
+  pub delayed-by : s < 16 → inDelays (conditionOf s n w) ≡ cond (leb 2 s && leb s 2) 1 0
+  delayed-by l =
+      by-state s n w (inDelays (conditionOf s n w) ≡ cond (leb 2 s && leb s 2) 1 0) (λ e. rw e) (λ e. rw e) (λ e. rw e) (λ e. rw e)
+      (λ h. ap inDelays (at-none s n w h) ∙ sym (ap (λ b. cond b 1 0) (above (omega arith) h)))
 
   -- whether it is in range: no plan has the section 255, so a number that names no condition is not
   module _ (sections : ℕ) where

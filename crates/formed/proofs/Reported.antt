@@ -1,29 +1,34 @@
--- The reports due that came from outside: which entries are reports of the papers', and the laws of a loop over those still to be given.
+-- The reports due that came from outside: which entries are reports of the papers', the laws of a loop over those still to be given, and what decides where
+-- some are due, or none.
 use mathlib.Core.Path.{_≡_, ap, ap₂, sym, _∙_}
 use mathlib.Core.Logic.{_⊎_, inl, inr, _≢_}
-use mathlib.Core.Bool.{Bool, true, false, _&&_}
-use mathlib.Core.List.{map}
+use mathlib.Core.Bool.{Bool, true, false, not, _&&_, _||_}
+use mathlib.Core.List.{List, [], _∷_, map}
 use Prim.Native.Nat.{ℕ, zero, suc, _+_, _-_, _≤_, _<_}
 use native.Mathlib.Omega.{arith}
 use borrow.Author.Tests.{le-leb, lt-leb, le-ltb, ne-eqb}
 use lib.Dec.{T, leb, ltb, leb→le, not-T}
 use lib.ListN.{length, getD, drop, length-drop, drop-of-length-le, List·getD-eq-default}
-use Rattle.model.specs.Searches.{all, countFrom, upTo}
+use Rattle.model.specs.Searches.{all, countFrom, isEmpty, upTo, same}
 use Rattle.model.specs.Plan.{threads}
 use Rattle.model.specs.Records as records
 use Rattle.model.specs.Records.{timerCount, Yield, nobody, report, allowed}
-use Rattle.model.specs.Formed.{dueInRange}
+use Rattle.model.specs.Priorities.{chosen}
+use Rattle.model.specs.Formed.{dueInRange, shownAtRest, formedMachine, formedReports, formed}
 use Rattle.model.proofs.Tests.{is-false, and-left, and-right, equal?}
 use Rattle.plan.specs.declared.Plan.{Plan}
 use Rattle.plan.specs.View.{Fits, view}
-use Rattle.model.proofs.Loops.{left, turn, done}
+use Rattle.model.proofs.Loops.{left, turn, done, and-true}
 use Rattle.plan.proofs.Laws.{threads-view}
 use Rattle.machine.specs.declared.reports.Report.{Report}
 use Rattle.machine.specs.declared.reports.Reports.{Reports}
-use Rattle.machine.specs.Lists.{reportRoom, reportOf, noReport, owed}
+use Rattle.machine.specs.declared.state.State.{State}
+use Rattle.machine.specs.Lists.{reportRoom, reportOf, noReport, owed, threadOf}
+use Rattle.machine.specs.View as machines
+use Rattle.machine.specs.View.{planOf, viewed, idle}
 use Rattle.machine.specs.Contracts.{IsReport}
 use Rattle.machine.proofs.Laws.{by-kind, length-owed}
-use Rattle.formed.proofs.Outside.{no-right}
+use Rattle.formed.proofs.Outside.{second-asked, no-right, whatever-due}
 
 -- an entry is a report of the papers': a Switch to nobody, the Expire of a timer, a Late of two bytes, or of a kind from 16 to 20 that names a thread
 module _ (p : Plan) (r : Report) where
@@ -147,3 +152,35 @@ module _ (p : Plan) (rs : Reports) (given : ℕ) where
 
       refused : allowed (view p) (report (entry last)) ≡ false
       refused = rw (List·getD-eq-default (rs .items) noReport {n = last} (omega arith), threads-view p) (le-ltb nobody (p .threads) (omega (arith, fits .threads)))
+
+-- behind the machine what is due decides
+module _ (s : State) where
+  abbrev due' : List records.Report
+  due' = drop (s .given) (owed (s .due))
+
+  -- the answer that the code gives
+  abbrev IsFormed : Bool → Type 0
+  IsFormed r = r ≡ formed (planOf (s .machine)) (machines.view s)
+
+  pub not-formed : false ≡ formedMachine (planOf (s .machine)) (idle (s .machine)) → IsFormed false
+  unfolding formed
+  not-formed e = ap (λ b. b && formedReports (planOf (s .machine)) (machines.view s)) (e ∙ sym (whatever-due (s .machine) due'))
+
+  module _ (e : formedMachine (planOf (s .machine)) (idle (s .machine)) ≡ true) where
+    decides : {r : Bool} → r ≡ dueInRange (planOf (s .machine)) due' && shownAtRest (planOf (s .machine)) (machines.view s) → IsFormed r
+    unfolding formed formedReports
+    decides q = second-asked (formedMachine (planOf (s .machine)) (machines.view s)) _ (whatever-due (s .machine) due' ∙ e) q
+
+    -- with nothing due the thread reported does
+    pub at-rest : s .due .count ≤ s .given → {r : Bool} → r ≡ shownAtRest (planOf (s .machine)) (idle (s .machine)) → IsFormed r
+    at-rest h q =
+        let none : due' ≡ [] = drop-of-length-le (owed (s .due)) {i = s .given} (omega (arith, length-owed (s .due))) in
+        decides (q ∙ sym (ap₂ (λ a l. a && shownAtRest (planOf (s .machine)) (viewed (s .machine) l)) (sym (none-due (s .machine .plan) (s .due) (s .given) h)) none))
+
+    -- and else the reports do
+    pub with-due : s .given < s .due .count → {r : Bool} → r ≡ dueInRange (planOf (s .machine)) due' → IsFormed r
+    with-due h {r} q = decides (q ∙ some-due due' (omega (arith, still-due (s .machine .plan) (s .due) (s .given))))
+      where
+        some-due : (l : List records.Report) → 0 < length l → dueInRange (planOf (s .machine)) l ≡ dueInRange (planOf (s .machine)) l && (not (isEmpty l) || same (threadOf (s .machine .reported)) (chosen (planOf (s .machine)) (machines.view s)))
+        some-due [] k = absurd (omega arith)
+        some-due (d ∷ l) k = sym (and-true (dueInRange (planOf (s .machine)) (d ∷ l)))

@@ -2,7 +2,7 @@
 use mathlib.Core.Path.{_≡_}
 use mathlib.Core.Bool.{Bool, true, cond, _&&_}
 use mathlib.Core.List.{List}
-use Prim.Native.Nat.{ℕ}
+use Prim.Native.Nat.{ℕ, _≤_}
 use lib.Dec.{eqb, leb, ltb}
 use Rattle.model.specs.Searches.{all, upTo}
 use Rattle.model.specs.Formed.{times}
@@ -12,18 +12,32 @@ use Rattle.lists.specs.Lists.{queued}
 use Rattle.machine.specs.declared.Machine.{Machine}
 use Rattle.lists.specs.Choice.{Counts}
 
--- a thread of this condition's number stands once in the queue if it is ready, once in the waits if it waits, and nowhere else
-abbrev pub standsBy : (queue waits : List ℕ) (state thread : ℕ) → Bool
-standsBy q ws s t = eqb (times (λ u. eqb u t) q) (cond (eqb s 1) 1 0) && eqb (times (λ u. eqb u t) ws) (cond (leb 3 s) 1 0)
+-- a list names a thread once if the number of its condition is one of these, and else not at all
+abbrev pub namesBy : (list : List ℕ) (least most state thread : ℕ) → Bool
+namesBy l a b s t = eqb (times (λ u. eqb u t) l) (cond (leb a s && leb s b) 1 0)
+
+-- so it does with each of so many threads
+abbrev pub namesThose : (threads states : ℕ) (list : List ℕ) (least most : ℕ) → Bool
+namesThose n states l a b = all (λ t. namesBy l a b (nibble states t) t) (upTo n)
+
+-- a thread of this condition's number stands once in the queue if it is ready (1), in the waits if it waits (3, or no condition's number), in the order
+-- of Delays if it sleeps (2), and nowhere else
+abbrev pub standsBy : (queue waits delays : List ℕ) (state thread : ℕ) → Bool
+standsBy q ws ds s t = namesBy q 1 1 s t && namesBy ws 3 15 s t && namesBy ds 2 2 s t
+
+-- so does each of so many threads, list by list
+abbrev pub standing : (threads states : ℕ) (queue waits delays : List ℕ) → Bool
+standing n states q ws ds = namesThose n states q 1 1 && namesThose n states ws 3 15 && namesThose n states ds 2 2
 
 -- the counts of a machine are within their arrays and words
 pub record Counted (m : Machine) : Type 0 where
   pub fits : Fits (m .plan)
   pub counts : Counts (m .queue) (m .holds) (m .waits)
+  pub delays' : m .delays .count ≤ 16
 
 -- each thread stands where its condition says
 abbrev pub Stood : Machine → Type 0
-Stood m = all (λ t. standsBy (queued (m .queue)) (queued (m .waits)) (nibble (m .slots .states) t) t) (upTo (m .plan .threads)) ≡ true
+Stood m = standing (m .plan .threads) (m .slots .states) (queued (m .queue)) (queued (m .waits)) (queued (m .delays)) ≡ true
 
 -- no thread waits, and every number names a condition
 abbrev pub Calm : (states threads : ℕ) → Type 0

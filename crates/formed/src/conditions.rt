@@ -1,8 +1,8 @@
-// The conditions of a lent state: whether each is in range, and where a thread in one stands.
+// The conditions of a lent state: whether each is in range.
 ghost use mathlib.Core.Path.{_≡_};
-ghost use mathlib.Core.Bool.{true, cond};
+ghost use mathlib.Core.Bool.{true};
 ghost use Prim.Native.Nat.{_≤_};
-ghost use lib.Dec.{eqb, leb};
+ghost use lib.Dec.{leb};
 ghost use mathlib.Core.List.{map};
 ghost use Rattle.model.specs.Searches.{all, upTo};
 ghost use Rattle.model.specs.Formed.{lastWake, conditionInRange};
@@ -76,18 +76,4 @@ pub(crate) fn fit(
         return true;
     }
     in_range(slots, wakes, threads, sections)
-}
-
-// How often a thread in this condition stands in the queue.
-pub(crate) fn in_queue(state: u8) -> u8
-    ensures { λ r. ⌜ r ≡ cond (eqb state 1) 1 0 ⌝ }
-{
-    if state == 1 { 1 } else { 0 }
-}
-
-// And in the waits.
-pub(crate) fn in_waits(state: u8) -> u8
-    ensures { λ r. ⌜ r ≡ cond (leb 3 state) 1 0 ⌝ }
-{
-    if 3 <= state { 1 } else { 0 }
 }

@@ -1,69 +1,19 @@
 // Answer 12: whether a state that came from outside is well formed. The counts are tested before an entry is read.
 ghost use mathlib.Core.Path.{_≡_};
-ghost use mathlib.Core.Bool.{true, _&&_};
-ghost use Prim.Native.Nat.{ℕ, _+_, _≤_, _<_};
-ghost use lib.Dec.{leb};
-ghost use Rattle.model.specs.Searches.{all, upTo};
-ghost use Rattle.model.specs.Formed.{numbersInRange, formed};
-ghost use Rattle.lists.specs.Words.{nibble};
-ghost use Rattle.lists.specs.Lists.{queued};
+ghost use mathlib.Core.Bool.{_&&_};
+ghost use lib.Dec.{T, leb};
+ghost use Rattle.model.specs.Formed.{numbersInRange, shownAtRest, formedMachine, formed};
 ghost use Rattle.machine.specs.View.{planOf, idle, view};
-ghost use Rattle.formed.specs.Contracts.{Counted, Stood, standsBy};
+ghost use Rattle.formed.specs.Contracts.{Counted, Stood};
 use crate::conditions;
 use crate::reports;
+use crate::standing::stand_once;
 use crate::timers;
 use clock::time::LAST_TICK;
-use lists::nibbles::marks;
-use lists::nibbles::nibble_at;
-use lists::nibbles::tally;
-use lists::queue::Queue;
 use machine::Machine;
-use machine::slots::Slots;
 use machine::state::State;
+use plan::ceilings::ceilings;
 use plan::questions::passes;
-
-// Whether all sixteen threads stand where their conditions say, those past the last thread too: asked of whole words. The lowest bit of a
-// condition says that the thread is listed, the next one, of a listed thread, that it waits.
-fn all_stand(states: u64, queue: Queue, waits: Queue) -> bool
-    requires { ⌜ queue .count + waits .count < 16 ⌝ }
-    ensures { λ r. ⌜ (r ≡ true → (t : ℕ) → t < 16 → standsBy (queued queue) (queued waits) (nibble states t) t ≡ true) ⌝ }
-{
-    let lined = marks(0, queue.items, queue.count);
-    let listed = marks(lined, waits.items, waits.count);
-    let waiting = marks(0, waits.items, waits.count);
-    states & 0xcccccccccccccccc == 0
-        && states & 0x1111111111111111 == listed
-        && (states / 2) & listed == waiting
-}
-
-// Whether each thread stands once in the queue if it is ready, once in the waits if it waits, and nowhere else. Where not all sixteen do so at
-// once, the threads of the plan are asked one by one.
-fn stand_once(threads: usize, slots: Slots, queue: Queue, waits: Queue) -> bool
-    requires { ⌜ (threads ≤ 16) × (queue .count ≤ 16) × (waits .count ≤ 16) ⌝ }
-    ensures { λ r. ⌜ r ≡ all (λ t. standsBy (queued queue) (queued waits) (nibble (slots .states) t) t) (upTo threads) ⌝ }
-{
-    if queue.count + waits.count < 16 {
-        if all_stand(slots.states, queue, waits) {
-            return true;
-        }
-    }
-    let mut lined = [0u8; 16];
-    tally(queue.items, queue.count, &mut lined);
-    let mut waiting = [0u8; 16];
-    tally(waits.items, waits.count, &mut waiting);
-    let mut t: usize = 0;
-    while t < threads {
-        let state = nibble_at(slots.states, t as u8);
-        if lined[t] != conditions::in_queue(state) {
-            return false;
-        }
-        if waiting[t] != conditions::in_waits(state) {
-            return false;
-        }
-        t += 1;
-    }
-    true
-}
 
 // Whether every number is in range: the tick number, the threads and the sections. Asked where each thread stands where its condition says, so
 // that where the waits are empty no condition is a wait.
@@ -100,19 +50,15 @@ fn numbers_in_range(m: Machine) -> bool
 
 // Whether the lists are within their words.
 fn counted(m: Machine) -> bool
-    ensures { λ r. ⌜ r ≡ leb (m .queue .count) 16 && leb (m .waits .count) 16 && leb (m .holds .count) 16 ⌝ }
+    ensures { λ r. ⌜ r ≡ leb (m .queue .count) 16 && leb (m .waits .count) 16 && leb (m .delays .count) 16 && leb (m .holds .count) 16 ⌝ }
 {
-    let q = m.queue;
-    let w = m.waits;
-    let h = m.holds;
-    q.count <= 16 && w.count <= 16 && h.count <= 16
+    m.queue.count <= 16 && m.waits.count <= 16 && m.delays.count <= 16 && m.holds.count <= 16
 }
 
-// Whether the answer is not 12: see model, Formed.formed. Rules out a test of the numbers alone, and one that reads past a count.
-pub fn formed(state: State) -> bool
-    ensures { λ r. ⌜ r ≡ formed (planOf (state .machine)) (view state) ⌝ }
+// Whether the machine is well formed, whatever is due: see model, Formed.formedMachine.
+fn machine_formed(m: Machine) -> bool
+    ensures { λ r. ⌜ r ≡ formedMachine (planOf m) (idle m) ⌝ }
 {
-    let m = state.machine;
     let p = m.plan;
     if !passes(p) {
         return false;
@@ -120,26 +66,46 @@ pub fn formed(state: State) -> bool
     if !counted(m) {
         return false;
     }
-    let s = m.slots;
-    let q = m.queue;
-    let w = m.waits;
-    if !stand_once(p.threads, s, q, w) {
+    if !stand_once(p.threads, m.slots.states, m.queue, m.waits, m.delays) {
         return false;
     }
     if !numbers_in_range(m) {
+        return false;
+    }
+    if !m.delays.below(p.threads) {
         return false;
     }
     let t = m.timers;
     if !timers::in_range(t) {
         return false;
     }
-    let h = m.holds;
-    if !h.once(p.sections) {
+    m.holds.once(p.sections)
+}
+
+// Whether the chosen thread is the one last reported. The ceilings matter only where somebody waits.
+fn shown(m: Machine) -> bool
+    requires { ⌜ T (formedMachine (planOf m) (idle m)) ⌝ }
+    ensures { λ r. ⌜ r ≡ shownAtRest (planOf m) (idle m) ⌝ }
+{
+    let mut all = [0u8; 16];
+    if 0 < m.waits.count {
+        let p = m.plan;
+        all = ceilings(p);
+    }
+    m.chosen(&all) == m.reported
+}
+
+// Whether the answer is not 12: see model, Formed.formed. Rules out a test of the numbers alone, and one that reads past a count.
+pub fn formed(state: State) -> bool
+    ensures { λ r. ⌜ r ≡ formed (planOf (state .machine)) (view state) ⌝ }
+{
+    let m = state.machine;
+    if !machine_formed(m) {
         return false;
     }
     let due = state.due;
     if due.count <= state.given {
-        return true;
+        return shown(m);
     }
-    reports::in_range(due, state.given, p)
+    reports::in_range(due, state.given, m.plan)
 }

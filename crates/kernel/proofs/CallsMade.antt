@@ -14,16 +14,14 @@ use Rattle.model.specs.Records as records
 use Rattle.model.specs.Records.{Call, call, report, allowed}
 use Rattle.model.specs.Timers.{isComplete}
 use Rattle.model.specs.State as state
-use Rattle.model.specs.Priorities.{chosen}
 use Rattle.model.specs.Runs.{moved, broke, step}
 use Rattle.model.specs.Bench.{deliverAll, behind, benchFrom}
 use Rattle.model.proofs.Tests.{equal?}
-use Rattle.model.proofs.Laws.{Reached, begin, next, due-fits, start-nobody, tick-at-most, bench-begins, bench-ended, bench-moved, bench-broke, settled-reached, settled-chosen}
+use Rattle.model.proofs.Laws.{Reached, begin, next, due-fits, tick-at-most, bench-begins, bench-ended, bench-moved, bench-broke, settled-reached}
 use Rattle.plan.specs.View as plans
 use Rattle.plan.specs.declared.Plan.{Plan}
 use Rattle.plan.proofs.Laws.{threads-view}
 use Rattle.machine.specs.declared.state.State.{State}
-use Rattle.machine.specs.Lists.{numbered}
 use Rattle.machine.specs.View.{planOf, view}
 use Rattle.machine.specs.Contracts.{Fresh}
 use Rattle.machine.proofs.Laws.{stands-formed, ceilings-of}
@@ -50,23 +48,21 @@ behind-last : (a : List records.Record) (b : Bool) → behind a (cond b (some []
 behind-last a true = ap {B = Option (List records.Record)} some (append-nil a)
 behind-last a false = refl
 
--- after k calls: the state, the chosen thread, and the records so far; a call makes T + 9 reports at most, so 26 records
-pub record CallsMade (p : Plan) (list : List ℕ) (k : ℕ) (s : State) (who : ℕ) (done : List records.Record) : Type 0 where
+-- after k calls: the state, and the records so far; a call makes T + 9 reports at most, so 26 records
+pub record CallsMade (p : Plan) (list : List ℕ) (k : ℕ) (s : State) (done : List records.Record) : Type 0 where
   pub plan' : s .machine .plan ≡ p
   pub reached : Reached (plans.view p) (view s)
   pub tick : view s .tickNumber ≤ k
-  pub chosen' : who ≡ numbered (chosen (plans.view p) (view s))
   pub few : length done ≤ 26 * k
   pub so-far : madeOf p list ≡ behind done (benchFrom (plans.view p) (view s) (drop k (calls list)))
 
--- at the start nobody is chosen and nothing is written
-pub made-begin : (p : Plan) (list : List ℕ) (s : State) → Fresh s p → CallsMade p list 0 s 255 []
+-- at the start nothing is written
+pub made-begin : (p : Plan) (list : List ℕ) (s : State) → Fresh s p → CallsMade p list 0 s []
 made-begin p list s f =
     record {
       plan' = f .plan';
       reached = subst (Reached (plans.view p)) (sym (f .seen)) begin;
       tick = omega (arith, ap (λ (st : state.State). st .tickNumber) (f .seen));
-      chosen' = ap numbered (sym (ap (chosen (plans.view p)) (f .seen) ∙ start-nobody (plans.view p)));
       few = omega arith;
       so-far = bench-begins (plans.view p) (calls list) ∙ ap (λ (st : state.State). benchFrom (plans.view p) st (calls list)) (sym (f .seen)) ∙ sym (behind-nil (benchFrom (plans.view p) (view s) (calls list)));
     }
@@ -83,7 +79,7 @@ behind-within : (rs : List records.Record) (o : Option (List records.Record)) �
 behind-within rs none t = absurd t
 behind-within rs (some rest) t = omega (arith, length-append rs rest)
 
-module _ {p : Plan} {ceilings list : List ℕ} {n : ℕ} (passed : Passed p ceilings list n) {k : ℕ} {s : State} {who : ℕ} {done : List records.Record} (m : CallsMade p list k s who done) where
+module _ {p : Plan} {ceilings list : List ℕ} {n : ℕ} (passed : Passed p ceilings list n) {k : ℕ} {s : State} {done : List records.Record} (m : CallsMade p list k s done) where
   -- after the last call the records so far are all, where no arming is in progress
   pub made-all : n ≤ k → madeOf p list ≡ cond (isComplete (view s .timers .arming)) (some done) none
   made-all h =
@@ -107,19 +103,18 @@ module _ {p : Plan} {ceilings list : List ℕ} {n : ℕ} (passed : Passed p ceil
     is-call : recordAt list k ≡ call (callAt list k)
     is-call = sym (call-is passed k h)
 
-    pub made-steps : Single s ceilings who list k
+    pub made-steps : Single s ceilings list k
     made-steps =
         record {
           formed' = stands-formed s (carried (λ q. T (model.validPlan q)) (passed .valid)) (carried (λ q. Reached q (view s)) (m .reached)) (omega (arith, m .tick, calls-few passed));
           ceilings' = ceilings-of (s .machine) p ceilings (m .plan') (passed .ceilings');
-          chosen' = carried (λ q. who ≡ numbered (chosen q (view s))) (m .chosen');
           whole = list-whole passed;
           within = omega (arith, h, passed .count);
           operand' = subst (λ (q : Plan). T (operandFits (q .threads) (q .sections) (kindAt list k) (operandAt list k))) (sym (m .plan')) (call-fits passed k h);
           room = λ z. omega (arith, m .tick, calls-few passed);
         }
 
-    module _ (o : Stepped) (a : Advances (o .state) (o .chosen) (o .rule) s (recordAt list k)) where
+    module _ (o : Stepped) (a : Advances (o .state) (o .rule) s (recordAt list k)) where
       -- the model's step for the call, in the plan that came
       as-call : (P : model.Plan → records.Record → Type 0) → P (planOf (s .machine)) (recordAt list k) → P (plans.view p) (call (callAt list k))
       as-call P g = subst (λ (r : records.Record). P (plans.view p) r) is-call (subst (λ (q : Plan). P (plans.view q) (recordAt list k)) (m .plan') g)
@@ -184,7 +179,7 @@ module _ {p : Plan} {ceilings list : List ℕ} {n : ℕ} (passed : Passed p ceil
             let w = behind-within (done ++ added list k (view (o .state))) rest (subst (λ (l : Option (List records.Record)). T (isMade l)) later t) in
             omega (arith, w, added-count done list k (view (o .state)), ap (λ (l : Option (List records.Record)). length (recordsOf l)) later)
 
-        pub made-next : (s' : State) → Settles s' (o .state) → CallsMade p list (k + 1) s' (o .chosen) (done ++ added list k (view (o .state)))
+        pub made-next : (s' : State) → Settles s' (o .state) → CallsMade p list (k + 1) s' (done ++ added list k (view (o .state)))
         made-next s' e =
             let v = plans.view p in
             let after = view (o .state) in
@@ -192,9 +187,6 @@ module _ {p : Plan} {ceilings list : List ℕ} {n : ℕ} (passed : Passed p ceil
               plan' = e .plan' ∙ a .plan' ∙ m .plan';
               reached = subst (Reached v) (sym (e .seen)) (settled-reached v after reached-call);
               tick = omega (arith, tick-after, ap (λ (st : state.State). st .tickNumber) (e .seen));
-              chosen' =
-                  a .chosen' ∙ ap (λ (q : Plan). numbered (chosen (plans.view q) after)) (m .plan')
-                  ∙ ap numbered (sym (settled-chosen v after) ∙ ap (chosen v) (sym (e .seen)));
               few = omega (arith, m .few, made-due, added-count done list k after);
               so-far = later ∙ ap (λ (st : state.State). behind (done ++ added list k (view (o .state))) (benchFrom v st (drop (k + 1) (calls list)))) (sym (e .seen));
             }

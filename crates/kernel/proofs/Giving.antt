@@ -1,4 +1,4 @@
--- Giving the reports due, one after another: the state stays well formed, and in the end all are given.
+-- Giving the reports due, one after another: while one is due the state stays well formed, and in the end all are given.
 use mathlib.Core.Path.{_≡_, refl, ap, sym, subst, _∙_}
 use mathlib.Core.List.{List, [], _∷_, tail, List·Memᴰ as Mem, List·Memᴰ·head as here, List·Memᴰ·tail as there}
 use mathlib.Core.Option.{Option, some}
@@ -35,22 +35,29 @@ switched-known p w (Expire i) h a t e = h t e
 switched-known p w (Late n) h a t e = h t e
 
 module _ (p : Plan) (st : State) (d : Report) (q : st .due ≡ d ∷ tail (st .due)) where
-  -- the first report due is given: the state stays well formed
-  given-formed : WellFormed p st → WellFormed p (deliver d st)
-  given-formed w =
+  -- The first report due is given: the state stays well formed where another one is due. With none left the chosen thread of a lent state may be another than
+  -- the one reported.
+  given-formed : 0 < length (tail (st .due)) → WellFormed p st → WellFormed p (deliver d st)
+  given-formed h w =
+      let s = w .standing in
       record {
-        valid = w .valid;
-        agree = w .agree;
-        heldOnce' = w .heldOnce';
-        held = w .held;
-        wants = w .wants;
-        sleeps = w .sleeps;
-        tick = w .tick;
-        reported' = switched-known p (st .reported) d (w .reported') (w .known d (subst (λ l. Mem d l) (sym q) (here refl)));
-        arms = w .arms;
-        expires = w .expires;
+        standing =
+            record {
+              valid = s .valid;
+              agree = s .agree;
+              heldOnce' = s .heldOnce';
+              held = s .held;
+              wants = s .wants;
+              sleeps = s .sleeps;
+              tick = s .tick;
+              reported' = switched-known p (st .reported) d (s .reported') (w .known d (subst (λ l. Mem d l) (sym q) (here refl)));
+              arms = s .arms;
+              expires = s .expires;
+              delayed = s .delayed;
+            };
         few = omega (arith, w .few, ap length q);
         known = λ r m. w .known r (subst (λ l. Mem r l) (sym q) (there m));
+        shown' = λ e. absurd (omega (arith, h, ap length e));
       }
 
   -- and once all are given it is the same state
@@ -66,16 +73,16 @@ IsFormed s = T (formed (planOf (s .machine)) (view s))
 
 -- some of the reports that were due in the first state are given, and with the others given it will be settled
 pub record Giving (first s : code.State) : Type 0 where
-  pub formed' : IsFormed s
+  pub formed' : 0 < length (view s .due) → IsFormed s
   pub plan' : s .machine .plan ≡ first .machine .plan
   pub left : deliverAll (view s) ≡ deliverAll (view first)
 
 pub giving-begin : (s : code.State) → IsFormed s → Giving s s
-giving-begin s f = record { formed' = f; plan' = refl; left = refl }
+giving-begin s f = record { formed' = λ h. f; plan' = refl; left = refl }
 
 module _ {first s : code.State} (g : Giving first s) where
   pub giving-owes : 0 < length (view s .due) → Owes s
-  giving-owes h = record { formed' = g .formed'; due' = h }
+  giving-owes h = record { formed' = g .formed' h; due' = h }
 
   module _ {r : reports.Report} {s' : code.State} (f : FirstDue r s) (d : Delivers s' s r) where
     pub giving-due : view s .due ≡ reportOf r ∷ view s' .due
@@ -86,9 +93,11 @@ module _ {first s : code.State} (g : Giving first s) where
         let p = planOf (s .machine) in
         let st = deliver (reportOf r) (view s) in
         record {
-          formed' =
+          formed' = λ h.
+              let more : 0 < length (tail (view s .due)) = omega (arith, h, ap (λ (x : State). length (x .due)) (d .seen)) in
+              let here' = formed-facts s (g .formed' (omega (arith, ap length (f .first)))) in
               subst (λ (q : declared.Plan). T (formed (plans.view q) (view s'))) (sym (d .plan'))
-              (subst (λ (x : State). T (formed p x)) (sym (d .seen)) (passes-all p st (given-formed p (view s) (reportOf r) (f .first) (formed-facts s (g .formed')))));
+              (subst (λ (x : State). T (formed p x)) (sym (d .seen)) (passes-all p st (given-formed p (view s) (reportOf r) (f .first) more here')));
           plan' = d .plan' ∙ g .plan';
           left = ap deliverAll (d .seen) ∙ given-all p (view s) (reportOf r) (f .first) ∙ g .left;
         }

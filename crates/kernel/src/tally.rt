@@ -33,12 +33,11 @@ pub(crate) fn tally(plan: Plan, ceilings: &[u8; 16], list: &[u8], n: usize) -> C
     ensures { λ r. ⌜ Tallies r (madeOf plan (now (list .entry))) ⌝ }
 {
     let mut s = State::fresh(plan);
-    let mut who: u8 = 255;
     let mut records: usize = 0;
     let mut k: usize = 0;
     let mut running: usize = first_operand(n);
     while k < n {
-        let o = step(s, ceilings, who, list, k, running);
+        let o = step(s, ceilings, list, k, running);
         let moved = o.state;
         if o.rule != 0 {
             return Counted {
@@ -48,7 +47,6 @@ pub(crate) fn tally(plan: Plan, ceilings: &[u8; 16], list: &[u8], n: usize) -> C
         }
         records = records + 1 + moved.due_count();
         s = settled(moved);
-        who = o.chosen;
         k += 1;
         running += 2;
     }

@@ -64,19 +64,17 @@ pub(crate) fn write(
     out[0] = (n % 256) as u8;
     out[1] = (n / 256) as u8;
     let mut s = State::fresh(plan);
-    let mut who: u8 = 255;
     let mut k: usize = 0;
     let mut from: usize = first_operand(calls);
     let mut i: usize = 0;
     let mut to: usize = first_operand(n);
     while k < calls {
         let e = entry_at(list, k, from);
-        let o = step(s, ceilings, who, list, k, from);
+        let o = step(s, ceilings, list, k, from);
         put(out, i, to, e.kind, e.operand);
         let moved = o.state;
         let w = put_reports(moved, out, i + 1, to + 2);
         s = w.state;
-        who = o.chosen;
         k += 1;
         from += 2;
         i = w.records;

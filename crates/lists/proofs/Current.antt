@@ -17,14 +17,17 @@ use Rattle.lists.proofs.Numbered.{number-is}
 pub record Tells (base : ℕ → ℕ) (owner urgency : ℕ) (ceilings : List ℕ) (hs : List Hold) (ws : List ℕ) : Type 0 where
   pub at : (t : ℕ) → t < 255 → currentIn base owner urgency t ≡ priorityIn base ceilings hs ws t
 
+unraised : (b : Bool) (n : ℕ) → cond b (max n 0) n ≡ n
+unraised true n = omega arith
+unraised false n = refl
+
 module _ (base : ℕ → ℕ) (ceilings : List ℕ) (hs : List Hold) where
-  -- while nobody waits every thread has its base, the owner too
-  pub skip-owner : (owner t : ℕ) → currentIn base owner 0 t ≡ priorityIn base ceilings hs [] t
-  skip-owner owner t = unraised (eqb owner t) ∙ sym (unraised (same (ownerIn ceilings hs) (some t)))
-    where
-      unraised : (b : Bool) → cond b (max (base t) 0) (base t) ≡ base t
-      unraised true = omega arith
-      unraised false = refl
+  -- while nobody waits every thread has its base, the owner too, whatever the ceilings are
+  pub unwaited : (t : ℕ) → priorityIn base ceilings hs [] t ≡ base t
+  unwaited t = unraised (same (ownerIn ceilings hs) (some t)) (base t)
+
+  skip-owner : (owner t : ℕ) → currentIn base owner 0 t ≡ priorityIn base ceilings hs [] t
+  skip-owner owner t = unraised (eqb owner t) (base t) ∙ sym (unwaited t)
 
   -- so where nobody waits any owner will do
   pub any-owner : (owner : ℕ) {ws : List ℕ} → ws ≡ [] → Tells base owner 0 ceilings hs ws

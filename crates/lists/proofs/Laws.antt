@@ -11,12 +11,16 @@ use Rattle.lists.specs.Words.{nibbles}
 use Rattle.lists.specs.Lists.{queued, held}
 use Rattle.lists.proofs.Holdings.{held-length}
 use Rattle.lists.proofs.Queues.{length-nibbles}
+-- what is left of a word has its first number in front, and at the end nothing is left
+pub use Rattle.lists.proofs.Queues.{first, ended}
 -- what is read of a word where a number was set, and elsewhere
 pub use Rattle.lists.proofs.Words.{read-set, read-other}
--- those that pass a test, of a list with one more at its end
-pub use Rattle.lists.proofs.Queues.{filter-kept, filter-dropped}
+-- those that pass a test, of two lists in a row and of a list with one more at its end
+pub use Rattle.lists.proofs.Queues.{filter-append, filter-kept, filter-dropped}
 -- a word has as many numbers that pass a test as are counted, at most
 pub use Rattle.lists.proofs.Queues.{times-within}
+-- while nobody waits every thread has its base
+pub use Rattle.lists.proofs.Current.{unwaited}
 -- numbers for threads, and back
 pub use Rattle.lists.proofs.Numbered.{numbered-threadOf, threadOf-numbered, number-is}
 

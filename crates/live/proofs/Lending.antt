@@ -66,7 +66,7 @@ module _ {w : Watch} {k n : ℕ} (a : Passed w k n) where
     where
       go : (st .tickNumber ≡ lastTick) ⊎ (st .tickNumber ≢ lastTick) → st .tickNumber < lastTick
       go (inl z) = absurd (T-not (eqb k 7 && eqb (st .tickNumber) lastTick) (a .tick') (and-both (eqb k 7) (eqb (st .tickNumber) lastTick) (eq-test k 7 q) (eq-test (st .tickNumber) lastTick z)))
-      go (inr d) = omega (arith, known .tick)
+      go (inr d) = omega (arith, known .standing .tick)
 
   -- the record can be judged, from the lent state
   pub asked : Asked (w .state) k n
@@ -126,7 +126,7 @@ module _ (w : Watch) (k n : ℕ) where
           breach' = λ m x y. absurd (d x);
         }
 
-    module _ (d : w .rule ≡ 0) {after' : State} {who rule' : ℕ} (a : Advances after' who rule' (w .state) (recordOf k n)) where
+    module _ (d : w .rule ≡ 0) {after' : State} {rule' : ℕ} (a : Advances after' rule' (w .state) (recordOf k n)) where
       pub tells-broken : rule' ≢ 0 → Tells (record { watch = record { state = w .state; rule = rule' }; reply = says.Broken rule' }) w k n
       tells-broken f =
           let r = judges e d (broke rule') (answers-broke a f) in

@@ -98,29 +98,15 @@ fn refused(watch: Watch, kind: u8, operand: u16) -> u8
     0
 }
 
-// One record that passed 12, 7, 8 and 13: a walk over a dump that has it alone. A Tick at which nothing happens moves the tick number alone, and is
-// not walked over: the whole check does so little for it that a walk would be many times that.
+// One record that passed 12, 7, 8 and 13: a walk over a dump that has it alone.
 fn judged(state: State, kind: u8, operand: u16) -> Stepped
     requires { ⌜ Asked state kind operand ⌝ }
-    ensures { λ r. ⌜ Advances (r .state) (r .chosen) (r .rule) state (recordOf kind operand) ⌝ }
+    ensures { λ r. ⌜ Advances (r .state) (r .rule) state (recordOf kind operand) ⌝ }
 {
-    let m = state.machine;
-    let p = m.plan;
+    let p = state.machine.plan;
     let all = ceilings(p);
-    let who = m.chosen(&all);
-    if kind == 7 {
-        let c = state.opened(who).quieted();
-        if !c.owes() && c.is_quiet() {
-            let t = c.passed();
-            return Stepped {
-                state: t.closed(),
-                chosen: who,
-                rule: 0,
-            };
-        }
-    }
     let bytes = [1u8, 0, kind, (operand % 256) as u8, (operand / 256) as u8];
-    step(state, &all, who, &bytes, 0, first_operand(1))
+    step(state, &all, &bytes, 0, first_operand(1))
 }
 
 // A record that moved the machine: the state after it, clean with the number due.
@@ -148,8 +134,9 @@ fn breached(watch: Watch, rule: u8) -> Told
     }
 }
 
-// One record, on any lent state: the answer, and the state after it. Rules out a step that leaves the state alone, one that judges anew after
-// a breach, and a breach that moves the machine.
+// One record, on any lent state: the answer, and the state after it. A Tick at which nothing happens moves the tick number alone, and is not walked
+// over: the whole check does so little for it that a walk would be many times that. Rules out a step that leaves the state alone, one that judges
+// anew after a breach, and a breach that moves the machine.
 pub fn live(watch: Watch, kind: u8, operand: u16) -> Told
     ensures { λ r. ⌜ Tells r watch kind operand ⌝ }
 {
@@ -165,6 +152,10 @@ pub fn live(watch: Watch, kind: u8, operand: u16) -> Told
             watch,
             reply: Reply::Broken(watch.rule),
         };
+    }
+    if kind == 7 && watch.state.is_still() {
+        let after = watch.state.later();
+        return moved(watch, after);
     }
     let o = judged(watch.state, kind, operand);
     if o.rule != 0 {

@@ -135,7 +135,9 @@ module _ {m : Machine} {x : ℕ} (r : Runs m x) where
 
   pub delayed : (n : ℕ) → After (m .plan .threads) (delay x n (idle m))
   unfolding delay
-  delayed n = leaves (asleep (m .tick .0 + n + 1))
+  delayed n =
+      let l = leaves (asleep (m .tick .0 + n + 1)) in
+      record { queue' = l .queue'; holds' = l .holds'; waits' = l .waits'; known = l .known; waiting' = l .waiting'; few = l .few; last = l .last }
 
   pub ended : After (m .plan .threads) (end x (idle m))
   unfolding end
@@ -266,7 +268,7 @@ module _ {m left : Machine} {rs : Reports} {st : State} (f : Facts m) (k : Meets
               known = λ t i. omega (arith, same, a .known t (subst (λ (l : List ℕ). Mem t l) (ap (λ (z : State). z .queue) (k .seen)) i));
               waiting' = λ t i. omega (arith, same, a .waiting' t (subst (λ (l : List ℕ). Mem t l) (ap (λ (z : State). z .waits) (k .seen)) i));
             };
-        ceilings' = c ∙ ap (λ p. map (ceiling p) (upTo 16)) (sym plan-kept);
+        ceilings' = λ h. c ∙ ap (λ p. map (ceiling p) (upTo 16)) (sym plan-kept);
       }
 
   -- and what the Switch asks

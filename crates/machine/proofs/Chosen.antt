@@ -2,7 +2,7 @@
 use mathlib.Core.Path.{_≡_, refl, ap, ap₂, sym, fun-ext, _∙_}
 use mathlib.Core.Logic.{_⊎_, inl, inr}
 use mathlib.Core.Bool.{cond, not, _&&_}
-use mathlib.Core.List.{List, map}
+use mathlib.Core.List.{List, [], map}
 use mathlib.Core.Option.{Option, none, some, Option·map}
 use Prim.Native.Nat.{ℕ, max, _≤_, _<_}
 use native.Mathlib.Omega.{arith}
@@ -30,7 +30,7 @@ use Rattle.lists.specs.Choice.{ownerIn, priorityIn, chosenIn, rivalledIn, inher
 use Rattle.machine.specs.View.{planOf, viewed}
 use Rattle.machine.specs.Contracts.{Listed, Ceilings}
 use Rattle.machine.proofs.Facts.{Facts}
-use Rattle.lists.proofs.Laws.{length-queued, length-held}
+use Rattle.lists.proofs.Laws.{length-queued, queued-empty, length-held, unwaited}
 use Rattle.machine.proofs.Room.{queued-known, waiting-known}
 
 -- the lists of a well-formed machine fit their words, and name threads
@@ -80,12 +80,29 @@ module _ (m : Machine) (v : T (validPlan (planOf m))) {ceilings : List ℕ} (c :
         threadOfHold : Option Hold → Option ℕ
         threadOfHold o = Option·map (λ (h : Hold). h .thread) o
 
-    pub chosen-is : chosenIn (baseOf m) ceilings (queued (m .queue)) (held (m .holds)) (queued (m .waits)) ≡ chosen (planOf m) (viewed m due)
+    chosen-is : chosenIn (baseOf m) ceilings (queued (m .queue)) (held (m .holds)) (queued (m .waits)) ≡ chosen (planOf m) (viewed m due)
     unfolding chosen
     chosen-is = ap (λ g. firstGreatest g (queued (m .queue))) (fun-ext priority-is)
 
     pub rivalled-is : (x : ℕ) → rivalledIn (baseOf m) ceilings (queued (m .queue)) (held (m .holds)) (queued (m .waits)) x ≡ rivalled (planOf m) x (viewed m due)
     rivalled-is x = ap (λ g. any (λ t. not (eqb t x) && eqb (g t) (g x)) (queued (m .queue))) (fun-ext priority-is)
+
+-- the ceilings matter only where somebody waits
+pub chosen-by : (m : Machine) → T (validPlan (planOf m)) → {ceilings : List ℕ} → (0 < m .waits .count → Ceilings m ceilings) → (due : List Report)
+    → chosenIn (baseOf m) ceilings (queued (m .queue)) (held (m .holds)) (queued (m .waits)) ≡ chosen (planOf m) (viewed m due)
+chosen-by m v {ceilings} c due = go (split (ltb 0 (m .waits .count)))
+  where
+    all' : List ℕ
+    all' = map (ceiling (planOf m)) (upTo 16)
+
+    go : T (ltb 0 (m .waits .count)) ⊎ T (not (ltb 0 (m .waits .count))) → chosenIn (baseOf m) ceilings (queued (m .queue)) (held (m .holds)) (queued (m .waits)) ≡ chosen (planOf m) (viewed m due)
+    go (inl t) = chosen-is m v (c (ltb→lt 0 (m .waits .count) t)) due
+    go (inr t) =
+        let e : queued (m .waits) ≡ [] = queued-empty (m .waits) (omega (arith, nltb→le 0 (m .waits .count) t)) in
+        ap (chosenIn (baseOf m) ceilings (queued (m .queue)) (held (m .holds))) e
+        ∙ ap (λ g. firstGreatest g (queued (m .queue))) (fun-ext (λ u. unwaited (baseOf m) ceilings (held (m .holds)) u ∙ sym (unwaited (baseOf m) all' (held (m .holds)) u)))
+        ∙ ap (chosenIn (baseOf m) all' (queued (m .queue)) (held (m .holds))) (sym e)
+        ∙ chosen-is m v {ceilings = all'} refl due
 
 -- the table of bases gives every listed thread the base that it has in the plan
 module _ (bases ceilings : List ℕ) {threads : ℕ} {queue : Queue} {holds : Holds} {waits : Queue} (l : Listed threads queue holds waits) where

@@ -1,22 +1,21 @@
 -- What the model asks of a condition, said of the numbers that it is read from.
-use mathlib.Core.Path.{_≡_, refl, ap, sym, _∙_}
-use mathlib.Core.Logic.{_≢_}
-use mathlib.Core.Bool.{_&&_}
+use mathlib.Core.Path.{_≡_, refl, ap, sym, subst, _∙_}
+use mathlib.Core.Bool.{Bool, _&&_}
 use mathlib.Core.List.{List, map}
 use Prim.Native.Nat.{ℕ, zero, suc, _*_, _^_, _<_}
 use native.Mathlib.Nat.{zero-div}
 use native.Mathlib.Omega.{arith}
 use borrow.Author.Tests.{ne-eqb}
-use lib.Dec.{eqb}
+use lib.Dec.{T, eqb, eqb→eq, eqb-refl}
 use lib.ListN.{replicate}
 use Rattle.model.specs.Searches.{countFrom}
-use Rattle.model.specs.State.{dormant, waiting}
+use Rattle.model.specs.State.{dormant, asleep, waiting}
 use Rattle.model.specs.Calls.{sleepsUntil, wanted}
 use Rattle.model.specs.Rules.{isDormant}
-use Rattle.model.specs.Formed.{lastWake, inWaits}
+use Rattle.model.specs.Formed.{inWaits}
+use Rattle.model.proofs.Tests.{and-right}
 use Rattle.clock.specs.declared.time.Tick.{Tick}
 use Rattle.machine.specs.View.{conditionOf, conditionIn, conditionsOf}
-use Rattle.machine.specs.Contracts.{wakesAt}
 
 -- of a state, the section wanted and the tick number
 module _ (s n w : ℕ) where
@@ -40,16 +39,14 @@ module _ (s n w : ℕ) where
       by-state (isDormant (conditionOf s n w) ≡ eqb s 0) (λ e. rw e) (λ e. rw e) (λ e. rw e) (λ e. rw e)
       (λ h. ap isDormant (at-none h) ∙ sym (ne-eqb s 0 (λ e. omega arith)))
 
-  pub sleeps-state : (k : ℕ) → sleepsUntil k (conditionOf s n w) ≡ eqb s 2 && eqb w k
+  sleeps-state : (k : ℕ) → sleepsUntil k (conditionOf s n w) ≡ eqb s 2 && eqb w k
   sleeps-state k =
       by-state (sleepsUntil k (conditionOf s n w) ≡ eqb s 2 && eqb w k) (λ e. rw e) (λ e. rw e) (λ e. rw e) (λ e. rw e)
       (λ h. ap (sleepsUntil k) (at-none h) ∙ sym (ap (λ b. b && eqb w k) (ne-eqb s 2 (λ e. omega arith))))
 
-  pub wakes-asleep : s ≡ 2 → wakesAt (conditionOf s n w) ≡ w
-  wakes-asleep e = rw e
-
-  pub wakes-other : s ≢ 2 → wakesAt (conditionOf s n w) ≡ lastWake
-  wakes-other k = by-state (wakesAt (conditionOf s n w) ≡ lastWake) (λ e. rw e) (λ e. rw e) (λ e. absurd (k e)) (λ e. rw e) (λ h. ap wakesAt (at-none h))
+  -- a sleeper's tick number is the one beside its condition
+  pub sleeps-at : (k : ℕ) → conditionOf s n w ≡ asleep k → w ≡ k
+  sleeps-at k e = eqb→eq w k (and-right (eqb s 2) (eqb w k) (subst (λ (b : Bool). T b) (sym (ap (sleepsUntil k) e) ∙ sleeps-state k) (eqb-refl k)))
 
   -- a thread that waits for a section of a plan wants that one: no plan has the section 255
   pub wants-it : (k : ℕ) → conditionOf s n w ≡ waiting k → k < 16 → n ≡ k

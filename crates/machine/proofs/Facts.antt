@@ -6,18 +6,18 @@ use native.Mathlib.Omega.{arith}
 use lib.Dec.{T}
 use Rattle.model.specs.Plan.{validPlan}
 use Rattle.model.specs.State.{waiting, Hold, condition}
-use Rattle.model.specs.Formed.{formed, lastTick, armingInRange}
+use Rattle.model.specs.Formed.{formedMachine, lastTick, armingInRange}
 use Rattle.model.proofs.Searches.{Pairwise}
-use Rattle.model.proofs.Laws.{OtherSection, Agree, well-formed, in-arming}
+use Rattle.model.proofs.Laws.{OtherSection, Agree, Sleeps, well-standing, in-arming}
 use Rattle.plan.specs.View.{Fits}
 use Rattle.plan.proofs.Laws.{threads-view, valid-fits}
 use Rattle.machine.specs.declared.Machine.{Machine}
 use Rattle.machine.specs.View.{planOf, idle}
 use Rattle.machine.proofs.Views.{sized}
 
--- A machine with nothing due is well formed: the answer is not 12.
+-- A machine is well formed, whatever is due.
 pub record Formed (m : Machine) : Type 0 where
-  pub passes : T (formed (planOf m) (idle m))
+  pub passes : T (formedMachine (planOf m) (idle m))
 
 pub record Facts (m : Machine) : Type 0 where
   pub fits : Fits (m .plan)
@@ -29,12 +29,14 @@ pub record Facts (m : Machine) : Type 0 where
   pub held : (h : Hold) → Mem h (idle m .holds) → (h .section < m .plan .sections) × (h .thread < m .plan .threads)
   pub wants : (t s : ℕ) → condition (idle m) t ≡ waiting s → s < m .plan .sections
   pub tick : m .tick .0 ≤ lastTick
+  -- the order of Delays names each sleeper just once
+  pub sleeps : Sleeps (idle m .conditions) (idle m .delays)
   -- an arming in progress is of one of the eight timers
   pub arming : T (armingInRange (idle m .timers .arming))
 
 pub facts : {m : Machine} → Formed m → Facts m
 facts {m} f =
-    let w = well-formed (planOf m) (idle m) (sized m) (f .passes) in
+    let w = well-standing (planOf m) (idle m) (sized m) (f .passes) in
     record {
       fits = valid-fits (m .plan) (w .valid);
       valid = w .valid;
@@ -43,5 +45,6 @@ facts {m} f =
       held = λ h i. let r = w .held h i in (r .0, omega (arith, threads-view (m .plan), r .1));
       wants = w .wants;
       tick = w .tick;
+      sleeps = w .delayed;
       arming = in-arming (idle m .timers .arming) (w .arms);
     }

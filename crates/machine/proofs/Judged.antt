@@ -15,12 +15,10 @@ use Rattle.model.specs.Plan as plan
 use Rattle.model.specs.Records as records
 use Rattle.model.specs.Records.{Call, call, report}
 use Rattle.model.specs.State as state
-use Rattle.model.specs.Priorities.{greatestHold, current, chosen}
 use Rattle.model.specs.Rules.{firstNo, place, inOrder, laterQuestions, broken}
 use Rattle.model.specs.Runs.{moved, broke, outcome, deliver, effect, step}
 use Rattle.model.proofs.Tests.{equal?, split, is-true, is-false}
 use Rattle.plan.proofs.Laws.{threads-view}
-use Rattle.lists.specs.Lists.{numbered}
 use Rattle.clock.specs.Contracts.{kindPlace}
 use Rattle.machine.specs.declared.reports.Report.{Report}
 use Rattle.machine.specs.declared.reporting.Reporting.{Reporting}
@@ -42,18 +40,21 @@ stepped : (p : plan.Plan) (st : state.State) (r : records.Record) {o : Option �
 unfolding step
 stepped p st r e = ap (λ (o : Option ℕ). outcome o (effect p r st)) e
 
+-- a record moves as in the model, or its rule is answered
+module _ {after c : Reporting} {r : records.Record} (a : Answers after c r) where
+  pub answers-moved : after .rule ≡ 0 → step (planOf (c .machine)) (shown c) r ≡ moved (shown after)
+  answers-moved e = sym (a .outcome) ∙ ap (λ b. cond b (moved (shown after)) (broke (after .rule))) (eq-eqb (after .rule) 0 e)
+
+  pub answers-broke : after .rule ≢ 0 → step (planOf (c .machine)) (shown c) r ≡ broke (after .rule)
+  answers-broke d = sym (a .outcome) ∙ ap (λ b. cond b (moved (shown after)) (broke (after .rule))) (ne-eqb (after .rule) 0 d)
+
 -- a number other than 0 is that of a broken rule
 some-rule : (o : Option ℕ) (rule : ℕ) → rule ≡ ruleNumber o → rule ≢ 0 → o ≡ some rule
 some-rule none rule e d = absurd (d e)
 some-rule (some n) rule e d = ap {B = Option ℕ} some (sym e)
 
--- a report given changes nothing that the chosen thread depends on
-chosen-given : (p : plan.Plan) (st : state.State) (r : records.Report) → chosen p (deliver r st) ≡ chosen p st
-unfolding chosen current greatestHold
-chosen-given p st r = refl
-
 pub barred-stands : {c : Reporting} → Stands c → (rule : ℕ) → Stands (barred c rule)
-barred-stands s n = record { chosen' = s .chosen'; apart' = record { apart = s .apart' .apart }; quiet' = s .quiet' }
+barred-stands s n = record { apart' = record { apart = s .apart' .apart }; quiet' = s .quiet' }
 
 module _ (c : Reporting) {r : records.Record} where
   -- a broken rule
@@ -150,14 +151,13 @@ module _ {c : Reporting} {ceilings : List ℕ} {r : records.Record} (a : Asks c 
           go (inr d) = ap (λ b. threadOf (cond b (g .operand % 256) (c .machine .reported))) (ne-eqb (g .kind) 17 d) ∙ sym (switches-not g (threadOf (c .machine .reported)) d)
 
       delivered : shown (told c reported) ≡ deliver (reportOf g) (shown c)
-      delivered = alike refl refl refl refl refl switched (drop-next (c .given) (listed (reportAt c) (c .due))) refl
+      delivered = alike refl refl refl refl refl refl switched (drop-next (c .given) (listed (reportAt c) (c .due))) refl
 
       told-answers : dueRule first (g .kind) (g .operand) ≡ 0 → Answers (told c reported) c r
       told-answers z =
           let p = planOf (c .machine) in
           moves c (told c reported) refl (sym compared ∙ z) refl (delivered ∙ ap (λ (x : records.Record). effect p x (shown c)) (sym e))
           (record {
-            chosen' = a .stands .chosen' ∙ ap numbered (sym (chosen-given p (shown c) (reportOf g)) ∙ ap (chosen p) (sym delivered));
             apart' = record { apart = a .stands .apart' .apart };
             quiet' = a .stands .quiet';
           })

@@ -20,4 +20,5 @@ mod Judged
 mod Outcomes
 mod Timed
 mod Opening
+mod Still
 pub mod Laws

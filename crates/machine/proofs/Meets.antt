@@ -11,8 +11,8 @@ use Rattle.machine.specs.Lists.{owed, Tells, Stores}
 use Rattle.machine.proofs.Views.{length-owed}
 
 -- two states that remember the same are equal
-pub alike : {a b : State} → a .tickNumber ≡ b .tickNumber → a .conditions ≡ b .conditions → a .queue ≡ b .queue → a .holds ≡ b .holds → a .waits ≡ b .waits → a .reported ≡ b .reported → a .due ≡ b .due → a .timers ≡ b .timers → a ≡ b
-alike n cs q hs ws w ds ts = λ i. record { tickNumber = n i; conditions = cs i; queue = q i; holds = hs i; waits = ws i; reported = w i; due = ds i; timers = ts i }
+pub alike : {a b : State} → a .tickNumber ≡ b .tickNumber → a .conditions ≡ b .conditions → a .queue ≡ b .queue → a .holds ≡ b .holds → a .waits ≡ b .waits → a .delays ≡ b .delays → a .reported ≡ b .reported → a .due ≡ b .due → a .timers ≡ b .timers → a ≡ b
+alike n cs q hs ws zs w ds ts = λ i. record { tickNumber = n i; conditions = cs i; queue = q i; holds = hs i; waits = ws i; delays = zs i; reported = w i; due = ds i; timers = ts i }
 
 -- there are as many reports as the list of them has
 pub owed-count : (rs : Reports) {l : List records.Report} → owed rs ≡ l → rs .count ≡ length l

@@ -18,11 +18,11 @@ use Rattle.model.specs.Calls.{tick, delay, relinquish, end, take, give, perform
 use Rattle.model.specs.Rules.{callPlace, broken}
 use Rattle.model.specs.Runs.{effect}
 use Rattle.model.proofs.Tests.{equal?, and-right}
-use Rattle.model.proofs.Laws.{chosen-is}
+use Rattle.model.proofs.Laws.{well-formed}
 use Rattle.plan.specs.View as plans
 use Rattle.plan.proofs.Laws.{threads-view}
 use Rattle.lists.specs.Lists.{numbered}
-use Rattle.lists.proofs.Laws.{threadOf-numbered}
+use Rattle.lists.proofs.Laws.{numbered-threadOf}
 use Rattle.machine.specs.declared.Machine.{Machine}
 use Rattle.clock.specs.declared.time.Tick.{Tick}
 use Rattle.machine.specs.declared.reports.Reports.{Reports}
@@ -36,7 +36,7 @@ use Rattle.machine.proofs.Admitted.{CreateAsked, Asked, SectionAsked, T
 use Rattle.model.proofs.Loops.{listed-more, listed-alike}
 use Rattle.machine.proofs.Facts.{Formed, facts}
 use Rattle.machine.proofs.ReportKinds.{switch-to}
-use Rattle.machine.proofs.Room.{queued-known}
+use Rattle.machine.proofs.Views.{sized}
 use Rattle.machine.proofs.Quieted.{forgets, call-quiet, quiet-tick}
 use Rattle.machine.proofs.Switched.{chosen-due, switch-none, Settles, one-byte, switched, unswitched}
 use Rattle.machine.proofs.After.{After, before, created, ticked, delayed, relinquished, ended, taken, given, timed, settles}
@@ -87,13 +87,20 @@ module _ {c : Reporting} {ceilings : List ℕ} where
   pub create-asked : {t : ℕ} → Calls c ceilings (records.Create t) → CreateAsked (c .machine) t
   create-asked {t} a = record { formed = formed-idle a; ordered = a .ordered; known = omega (arith, ltb→lt t (threads (planOf (c .machine))) (a .asks .allowed'), threads-view (c .machine .plan)) }
 
-  pub caller-asked : {k : Call} → Calls c ceilings k → Asked (c .machine) (c .chosen) (callPlace k)
-  caller-asked a = record { formed = formed-idle a; ordered = a .ordered; caller' = a .asks .stands .chosen' ∙ ap (λ (x : state.State). numbered (chosen (planOf (c .machine)) x)) (comes-idle a) }
+  -- with nothing due the chosen thread is the one reported
+  reported-chosen : {k : Call} → Calls c ceilings k → threadOf (c .machine .reported) ≡ chosen (planOf (c .machine)) (idle (c .machine))
+  reported-chosen a =
+      let m = c .machine in
+      let st = shown c in
+      well-formed (planOf m) st (sized m) (a .asks .formed') .shown' (none-due (reportAt c) (c .due) (c .given) (a .undue)) ∙ chosen-due (planOf m) m (st .due)
 
-  pub take-asked : {n : ℕ} → Calls c ceilings (records.Take n) → SectionAsked (c .machine) (c .chosen) n
+  pub caller-asked : {k : Call} → Calls c ceilings k → Asked (c .machine) (c .machine .reported) (callPlace k)
+  caller-asked a = record { formed = formed-idle a; ordered = a .ordered; caller' = sym (numbered-threadOf (c .machine .reported)) ∙ ap numbered (reported-chosen a) }
+
+  pub take-asked : {n : ℕ} → Calls c ceilings (records.Take n) → SectionAsked (c .machine) (c .machine .reported) n
   take-asked {n} a = record { asked = caller-asked a; known = ltb→lt n (c .machine .plan .sections) (a .asks .allowed') }
 
-  pub give-asked : {n : ℕ} → Calls c ceilings (records.Give n) → SectionAsked (c .machine) (c .chosen) n
+  pub give-asked : {n : ℕ} → Calls c ceilings (records.Give n) → SectionAsked (c .machine) (c .machine .reported) n
   give-asked {n} a = record { asked = caller-asked a; known = ltb→lt n (c .machine .plan .sections) (a .asks .allowed') }
 
   -- a Delay's wait has two bytes
@@ -131,7 +138,7 @@ module _ {c : Reporting} {ceilings : List ℕ} {k : Call} (a : Calls c ceilings 
     after = owing left rs rule who quiet
 
     stands : Apart after → Stands after
-    stands p = record { chosen' = is ∙ ap numbered (sym (chosen-due (planOf left) left (shown after .due))); apart' = p; quiet' = still }
+    stands p = record { apart' = p; quiet' = still }
 
     -- it moves the machine, where it stands for what the model's call and its Switch make
     moved-by : rule ≡ 0 → shown after ≡ switch (planOf left) (viewed left (owed rs)) → Apart after → Answers after c (call k)
@@ -162,8 +169,8 @@ module _ {c : Reporting} {ceilings : List ℕ} {k : Call} (a : Calls c ceilings 
   pub quiet-answers : forgets k ≡ false → {who : ℕ} → who ≡ numbered (chosen (planOf left) (idle left)) → Answers (owing left rs rule who (c .quiet)) c (call k)
   quiet-answers d is = call-answers is (call-quiet made d (a .asks .stands .quiet'))
 
--- a Tick at which nothing happens, where the chosen thread is the one reported
-module _ {c : Reporting} {ceilings : List ℕ} (a : Calls c ceilings records.Tick) (z : c .rule ≡ 0) (below : c .machine .tick .0 + 1 < c .quiet .0) (is : c .chosen ≡ c .machine .reported) where
+-- a Tick at which nothing happens
+module _ {c : Reporting} {ceilings : List ℕ} (a : Calls c ceilings records.Tick) (z : c .rule ≡ 0) (below : c .machine .tick .0 + 1 < c .quiet .0) where
   abbrev m : Machine
   m = c .machine
 
@@ -173,22 +180,16 @@ module _ {c : Reporting} {ceilings : List ℕ} (a : Calls c ceilings records.Tic
   passed-shown : shown (passed c) ≡ later-tick
   passed-shown = ap (viewed (passed c .machine)) (none-due (reportAt c) (c .due) (c .given) (a .undue))
 
-  reported-chosen : threadOf (m .reported) ≡ chosen (planOf m) (idle m)
-  reported-chosen =
-      ap threadOf (sym is ∙ caller-asked a .caller')
-      ∙ threadOf-numbered (chosen (planOf m) (idle m)) (λ x k. let f = facts (formed-idle a) in omega (arith, queued-known f x (chosen-is (planOf m) (idle m) x k .0), f .fits .threads))
-
   unswitched-tick : switch (planOf m) (tick (idle m)) ≡ later-tick
   unswitched-tick =
       ap (switch (planOf m)) (quiet-tick m (c .quiet .0) (a .asks .stands .quiet') below)
-      ∙ switch-none (planOf m) later-tick (reported-chosen ∙ sym (chosen-ticked (planOf m) (m .tick .0 + 1) (idle m)))
+      ∙ switch-none (planOf m) later-tick (reported-chosen a ∙ sym (chosen-ticked (planOf m) (m .tick .0 + 1) (idle m)))
 
   pub passed-answers : Answers (passed c) c (call records.Tick)
   passed-answers =
       moves c (passed c) refl (asked-here a ∙ sym (tick-rule (tick-asked a))) z
       (passed-shown ∙ sym unswitched-tick ∙ ap (λ (st : state.State). effect (planOf m) (call records.Tick) st) (sym (comes-idle a)))
       (record {
-        chosen' = caller-asked a .caller' ∙ ap numbered (sym (ap (chosen (planOf m)) passed-shown ∙ chosen-ticked (planOf m) (m .tick .0 + 1) (idle m)));
         apart' = record { apart = a .asks .stands .apart' .apart };
         quiet' = a .asks .stands .quiet';
       })

@@ -1,18 +1,17 @@
 -- What is due: the reports behind the ones given, by their places; and what is known of it in a well-formed state.
 use mathlib.Core.Path.{_≡_, refl, ap, _∙_}
 use mathlib.Core.Logic.{_⊎_, inl, inr}
-use mathlib.Core.Bool.{Bool, true, not, _&&_}
+use mathlib.Core.Bool.{not}
 use mathlib.Core.List.{List, [], _∷_, tail, List·Memᴰ as Mem, List·Memᴰ·head as here, List·Memᴰ·tail as there}
 use Prim.Native.Nat.{ℕ, zero, suc, _+_, _-_, _≤_, _<_}
 use native.Mathlib.Numerals.{add-one}
 use native.Mathlib.Omega.{arith}
-use lib.Dec.{T, leb, ltb, le→leb, ltb→lt, nltb→le}
+use lib.Dec.{T, ltb, ltb→lt, nltb→le}
 use lib.ListN.{length, getD, drop, drop-of-length-le, List·getD-eq-default}
 use lib.Seq.{drop-cons, drop-drop}
-use Rattle.model.specs.Plan.{threads, validPlan}
 use Rattle.model.specs.Records.{report, allowed}
-use Rattle.model.specs.Formed.{numbersInRange, timersInRange, heldOnce, allStandOnce, dueInRange, formed}
-use Rattle.model.proofs.Tests.{split, and-left, and-both}
+use Rattle.model.specs.Formed.{formedMachine, formedReports, formed}
+use Rattle.model.proofs.Tests.{split, and-left}
 use Rattle.model.proofs.Laws.{well-formed}
 use Rattle.model.proofs.Loops.{listed as entry-listed, length-listed}
 use Rattle.plan.proofs.Laws.{threads-view}
@@ -62,15 +61,10 @@ in-due at n given i a b =
     in-drop (i - given) (drop given (listed at n)) (rw (drop-drop (i - given) given (listed at n), z, first-due at n i b) (here refl))
 
 module _ (m : Machine) (at : ℕ → Report) (n given : ℕ) (passes : T (formed (planOf m) (viewed m (drop given (listed at n))))) where
-  -- the machine is well formed with nothing due as well
+  -- so is the machine, whatever is due
   pub unowed : Formed m
-  unfolding formed
-  unowed =
-      let p = planOf m in
-      let st = viewed m (drop given (listed at n)) in
-      let rest : Bool = validPlan p && numbersInRange p st && timersInRange (st .timers) && heldOnce (p .sections) (st .holds) && allStandOnce p st in
-      let none : T (dueInRange p []) = and-both (leb 0 (threads p + 9)) true (le→leb 0 (threads p + 9) (omega arith)) tt in
-      record { passes = and-both rest (dueInRange p []) (and-left rest (dueInRange p (st .due)) passes) none }
+  unfolding formed formedMachine
+  unowed = let st = viewed m (drop given (listed at n)) in record { passes = and-left (formedMachine (planOf m) st) (formedReports (planOf m) st) passes }
 
   -- each report due is one that the plan allows, of one of the papers' kinds
   pub due-allowed : (i : ℕ) → given ≤ i → i < n → T (allowed (planOf m) (report (reportOf (at i))))

@@ -1,36 +1,43 @@
 -- A Tick before the tick number at which the next thing happens changes the tick number alone, and most calls keep such a number.
-use mathlib.Core.Path.{_≡_, refl, ap, sym, _∙_}
+use mathlib.Core.Path.{_≡_, refl, ap, sym, subst, _∙_}
 use mathlib.Core.Logic.{_⊎_, inl, inr, _≢_}
 use mathlib.Core.Bool.{Bool, true, false, cond, not, true≢false}
 use mathlib.Core.Option.{Option, none, some}
-use mathlib.Core.List.{List, [], _∷_, _++_, map, append-nil, List·Memᴰ as Mem, List·Memᴰ·head as here}
+use mathlib.Core.List.{List, [], _∷_, _++_, map, append-nil, List·Memᴰ as Mem, List·Memᴰ·head as here, List·Memᴰ·tail as there}
 use Prim.Native.Nat.{ℕ, zero, suc, _+_, min, _≤_, _<_}
 use native.Mathlib.Omega.{arith}
 use borrow.Author.Tests.{ne-eqb}
 use lib.Dec.{T, ltb, eqb→eq, ltb→lt, nltb→le}
 use lib.ListN.{length, getD, set}
-use Rattle.model.specs.Searches.{_▷_, upTo}
+use Rattle.model.specs.Searches.{_▷_, filter, upTo}
 use Rattle.model.specs.Plan.{Plan}
 use Rattle.model.specs.Priorities.{chosen}
 use Rattle.model.specs.Timers as model
 use Rattle.model.specs.Timers.{Timer, Timers, noArming, afterArm, afterStart, isComplete, slot, expiresAt, expired, movedOn, moveOn}
-use Rattle.model.specs.State.{Condition, dormant, ready, asleep, waiting, State, condition, setTickNumber, setTimers, arrive, owe}
-use Rattle.model.specs.Records.{timerCount, Call, Create, Delay, Relinquish, End, Take, Give, Tick, Timing, Ready, Expire}
-use Rattle.model.specs.Calls.{create, sleepsUntil, sleepers, tick, rivalled, relinquish, end, aboveAll, heldByOthers, take, heir, handOver, give, byCaller, perform}
+use Rattle.model.specs.State.{Condition, dormant, ready, asleep, waiting, State, condition, setTickNumber, setTimers, setDelays, arrive, owe}
+use Rattle.model.specs.Records as records
+use Rattle.model.specs.Records.{timerCount, Call, Create, Delay, Relinquish, End, Take, Give, Timing, Ready, Expire}
+use Rattle.model.specs.Calls.{create, sleepsUntil, sleepers, stillAsleep, tick, rivalled, relinquish, end, aboveAll, heldByOthers, take, heir, handOver, give, byCaller, perform}
 use Rattle.model.specs.Rules.{stage}
 use Rattle.model.proofs.Tests.{split, equal?}
-use Rattle.model.proofs.Searches.{filtered, upTo-at}
-use Rattle.model.proofs.Laws.{tag}
+use Rattle.model.proofs.Searches.{filtered}
+use Rattle.model.proofs.Laws.{tag, Sleeps, sleeper, wake-up}
 use Rattle.model.proofs.Loops.{length-listed, unlisted}
+use Rattle.lists.specs.Words.{nibble}
+use Rattle.lists.specs.Lists.{queued}
+use Rattle.clock.specs.declared.time.Tick.{Tick}
 use Rattle.clock.specs.View as timing
+use Rattle.clock.specs.View.{numberAt}
 use Rattle.clock.specs.Contracts.{soonest as soonestExpiry}
 use Rattle.clock.proofs.Laws.{soonest-least as soonest-expiry}
 use Rattle.machine.specs.declared.Machine.{Machine}
 use Rattle.machine.specs.declared.reports.Reports.{Reports}
-use Rattle.machine.specs.View.{conditionIn, conditionsOf, planOf, idle}
-use Rattle.machine.specs.Contracts.{wakesAt, soonest, nextEventOf}
+use Rattle.machine.specs.View.{conditionIn, planOf, idle}
+use Rattle.machine.specs.Contracts.{soonest, nextEventOf}
 use Rattle.machine.specs.Calls.{Quiet}
 use Rattle.machine.proofs.Admitted.{Makes}
+use Rattle.machine.proofs.Conditions.{sleeps-at}
+use Rattle.machine.proofs.Facts.{Facts}
 use Rattle.machine.proofs.Views.{condition-at}
 use Rattle.machine.proofs.Meets.{alike}
 
@@ -38,17 +45,16 @@ use Rattle.machine.proofs.Meets.{alike}
 pub unknown-quiet : (m : Machine) → Quiet m 0
 unknown-quiet m = record { sleepers' = λ t n h e. omega arith; timers' = λ i t e. omega arith; rests = λ h. absurd (omega arith) }
 
--- the soonest is at most the tick number at which any of them wakes
-soonest-least : (cs : List Condition) (t : ℕ) → soonest cs ≤ wakesAt (getD cs t dormant)
-soonest-least [] t = omega arith
-soonest-least (c ∷ cs) zero = omega arith
-soonest-least (c ∷ cs) (suc t) = omega (arith, soonest-least cs t)
+-- the soonest is at most the tick number that any of them waits for
+soonest-least : (wakes : List Tick) (delays : List ℕ) {t : ℕ} → Mem t delays → soonest wakes delays ≤ numberAt wakes t
+soonest-least wakes (u ∷ l) {t} (here e) = rw e (omega arith)
+soonest-least wakes (u ∷ l) (there i) = omega (arith, soonest-least wakes l i)
 
-pub next-quiet : (m : Machine) → Quiet m (nextEventOf m)
-next-quiet m = go (idle m .timers .arming) refl
+pub next-quiet : (m : Machine) → Sleeps (idle m .conditions) (idle m .delays) → Quiet m (nextEventOf m)
+next-quiet m z = go (idle m .timers .arming) refl
   where
     first : ℕ
-    first = soonest (conditionsOf (m .plan .threads) (m .slots) (m .wakes))
+    first = soonest (m .wakes) (queued (m .delays))
 
     next : ℕ
     next = soonestExpiry (timing.view (m .timers) .slots)
@@ -56,7 +62,8 @@ next-quiet m = go (idle m .timers .arming) refl
     outside : idle m .timers .arming ≡ noArming → Quiet m (min first next)
     outside e =
         record {
-          sleepers' = λ t n h q. omega (arith, soonest-least (conditionsOf (m .plan .threads) (m .slots) (m .wakes)) t, ap wakesAt (condition-at (m .plan .threads) (m .slots) (m .wakes) t h ∙ q));
+          sleepers' = λ t n h q.
+              omega (arith, soonest-least (m .wakes) (queued (m .delays)) (z .inDelays t n (condition-at (m .plan .threads) (m .slots) (m .wakes) t h ∙ q)), sleeps-at (nibble (m .slots .states) t) (nibble (m .slots .wants) t) (numberAt (m .wakes) t) n q);
           timers' = λ i t q. omega (arith, soonest-expiry (timing.view (m .timers) .slots) i t q);
           rests = λ h. ap stage e;
         }
@@ -66,6 +73,11 @@ next-quiet m = go (idle m .timers .arming) refl
     go (afterArm i) e = rw e (unknown-quiet m)
     go (afterStart i s) e = rw e (unknown-quiet m)
 
+-- after a Tick the order of Delays still names each sleeper just once
+pub tick-sleeps : {m left : Machine} {rs : Reports} → Facts m → Makes left rs 0 m records.Tick → Sleeps (idle left .conditions) (idle left .delays)
+unfolding tick
+tick-sleeps {m} f makes = subst (λ (st : State). Sleeps (st .conditions) (st .delays)) (sym (makes .made refl)) (wake-up (suc (m .tick .0)) (idle m) (f .sleeps))
+
 -- after these calls it is asked anew, or no longer known
 abbrev pub forgets : Call → Bool
 forgets (Create t) = false
@@ -74,7 +86,7 @@ forgets Relinquish = false
 forgets End = false
 forgets (Take s) = false
 forgets (Give s) = false
-forgets Tick = true
+forgets records.Tick = true
 forgets (Timing k) = true
 
 -- the same, of the state alone: who sleeps until when, and timers that are as they were
@@ -123,7 +135,7 @@ module _ (until : ℕ) (ts : Timers) where
       (λ x. either-still (aboveAll p x (heldByOthers x (st .holds))) _ _ (record { sleep = q .sleep; kept = q .kept })
       (record { sleep = set-quiet (st .conditions) x (waiting s) (λ n e. absurd (omega (arith, ap tag e))) (q .sleep); kept = q .kept }))
   stays-still p st (Give s) d q = caller-still (chosen p st) (λ x. give p x s) st q (λ x. hand-still p (heir p st) _ (record { sleep = q .sleep; kept = q .kept }))
-  stays-still p st Tick d q = absurd (true≢false d)
+  stays-still p st records.Tick d q = absurd (true≢false d)
   stays-still p st (Timing k) d q = absurd (true≢false d)
 
 -- a machine, said of its state, and back
@@ -152,15 +164,19 @@ call-quiet {m} {left} {rs} {rule} {until} {k} makes d q = go (equal? rule 0)
     go (inl z) = quiet-by m left (ap (λ (st : State). st .conditions) (makes .made z)) (ap (λ (st : State). st .timers) (makes .made z)) q (stays-still until (idle m .timers) (planOf m) (idle m) k d (still-by m q))
     go (inr z) = quiet-by m left (ap (λ (st : State). st .conditions) (makes .kept z)) (ap (λ (st : State). st .timers) (makes .kept z)) q (still-by m q)
 
+-- where no sleeper passes a test, all stay
+module _ (f : ℕ → Bool) where
+  all-stay : (l : List ℕ) → filter f l ≡ [] → filter (λ t. not (f t)) l ≡ l
+  all-stay [] e = refl
+  all-stay (t ∷ l) e = go (f t) (all-stay l) e
+    where
+      go : (b : Bool) → (filter f l ≡ [] → filter (λ u. not (f u)) l ≡ l) → cond b (t ∷ filter f l) (filter f l) ≡ [] → cond (not b) (t ∷ filter (λ u. not (f u)) l) (filter (λ u. not (f u)) l) ≡ t ∷ l
+      go true h q = absurd (omega (arith, ap length q))
+      go false h q = ap (λ k. t ∷ k) (h q)
+
 no-member : (l : List ℕ) → ((t : ℕ) → Mem t l → ⊥) → l ≡ []
 no-member [] f = refl
 no-member (t ∷ l) f = absurd (f t (here refl))
-
-sleeps : (n : ℕ) (c : Condition) → T (sleepsUntil n c) → c ≡ asleep n
-sleeps n dormant t = absurd t
-sleeps n ready t = absurd t
-sleeps n (asleep k) t = ap asleep (eqb→eq k n t)
-sleeps n (waiting s) t = absurd t
 
 -- timers of which none expires at a tick number
 module _ (n : ℕ) where
@@ -183,9 +199,9 @@ module _ (m : Machine) (until : ℕ) (q : Quiet m until) (h : m .tick .0 + 1 < u
     where
       none-of : (t : ℕ) → Mem t (sleepers n (idle m)) → ⊥
       none-of t i =
-          let r = filtered (λ u. sleepsUntil n (condition (idle m) u)) (upTo (length (idle m .conditions))) i in
-          let l : t < m .plan .threads = omega (arith, upTo-at (length (idle m .conditions)) (r .0), length-listed (conditionIn (m .slots) (m .wakes)) (m .plan .threads)) in
-          omega (arith, h, q .sleepers' t n l (sym (condition-at (m .plan .threads) (m .slots) (m .wakes) t l) ∙ sleeps n (condition (idle m) t) (r .1)))
+          let r = sleeper n (idle m) t i in
+          let l : t < m .plan .threads = omega (arith, r .0, length-listed (conditionIn (m .slots) (m .wakes)) (m .plan .threads)) in
+          omega (arith, h, q .sleepers' t n l (sym (condition-at (m .plan .threads) (m .slots) (m .wakes) t l) ∙ r .1))
 
   none-expires : expired n (idle m .timers) ≡ []
   none-expires =
@@ -199,6 +215,6 @@ module _ (m : Machine) (until : ℕ) (q : Quiet m until) (h : m .tick .0 + 1 < u
   unfolding tick
   quiet-tick =
       let e : n ≡ m .tick .0 + 1 = omega arith in
-      ap (λ l. idle m ▷ setTickNumber n ▷ setTimers (moveOn n (idle m .timers)) ▷ arrive l ▷ owe (map Expire (expired n (idle m .timers)) ++ map Ready l)) nobody-wakes
-      ∙ ap (λ l. idle m ▷ setTickNumber n ▷ setTimers (moveOn n (idle m .timers)) ▷ arrive [] ▷ owe (map Expire l ++ [])) none-expires
-      ∙ alike e refl (append-nil (idle m .queue)) refl refl refl refl as-they-were
+      ap (λ l. idle m ▷ setTickNumber n ▷ setTimers (moveOn n (idle m .timers)) ▷ setDelays (stillAsleep n (idle m)) ▷ arrive l ▷ owe (map Expire (expired n (idle m .timers)) ++ map Ready l)) nobody-wakes
+      ∙ ap (λ l. idle m ▷ setTickNumber n ▷ setTimers (moveOn n (idle m .timers)) ▷ setDelays (stillAsleep n (idle m)) ▷ arrive [] ▷ owe (map Expire l ++ [])) none-expires
+      ∙ alike e refl (append-nil (idle m .queue)) refl refl (all-stay (λ t. sleepsUntil n (condition (idle m) t)) (queued (m .delays)) nobody-wakes) refl refl as-they-were

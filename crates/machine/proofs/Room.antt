@@ -1,4 +1,4 @@
--- No list grows past its room: each thread stands once in the queue or in the waits, and each section is held once.
+-- No list grows past its room: each thread stands once in the queue, in the waits or in the order of Delays, and each section is held once.
 use mathlib.Core.Path.{_≡_, refl, ap, sym, _∙_}
 use mathlib.Core.Logic.{_⊎_, inl, inr, _≢_}
 use mathlib.Core.Bool.{Bool, true, false, cond, not}
@@ -8,15 +8,15 @@ use native.Mathlib.Omega.{arith}
 use borrow.Author.Tests.{ne-eqb}
 use lib.Dec.{T, eqb, ltb, ltb→lt, T-not}
 use lib.ListN.{length, length-append}
-use Rattle.model.specs.Searches.{filter, upTo, without}
+use Rattle.model.specs.Searches.{filter, without}
 use Rattle.model.specs.Plan.{base, ceiling}
 use Rattle.model.specs.State.{ready, Hold, hold, isHold, condition}
 use Rattle.model.specs.Priorities.{heldCeiling}
 use Rattle.model.specs.Calls.{sleepsUntil, sleepers, aboveAll, heldByOthers}
 use Rattle.model.specs.Formed.{times}
 use Rattle.model.proofs.Tests.{and-both, eq-test, ne-test, equal?}
-use Rattle.model.proofs.Searches.{all-at, any-fails, filtered, in-filter, Pairwise, pairwise-filter, pairwise-append, pairwise-at, Distinct, stayed, distinct-without, upTo-distinct, pigeonhole}
-use Rattle.model.proofs.Laws.{ceiling-ge, tag, OtherSection, chosen-is, sleeper, queued-below, waiting-below, sections-fit, last-held}
+use Rattle.model.proofs.Searches.{all-at, any-fails, filtered, in-filter, Pairwise, pairwise-filter, pairwise-append, pairwise-at, Distinct, stayed, distinct-without, pigeonhole}
+use Rattle.model.proofs.Laws.{ceiling-ge, tag, OtherSection, chosen-is, delayed-below, sleeper, queued-below, waiting-below, sections-fit, last-held}
 use Rattle.plan.proofs.Laws.{threads-view}
 use Rattle.machine.specs.declared.Machine.{Machine}
 use Rattle.lists.specs.Lists.{queued, held}
@@ -32,6 +32,9 @@ module _ {m : Machine} (f : Facts m) where
   pub waiting-known : (t : ℕ) → Mem t (queued (m .waits)) → t < m .plan .threads
   waiting-known t i = omega (arith, threads-view (m .plan), waiting-below (planOf m) (f .agree) t i)
 
+  pub delayed-known : (t : ℕ) → Mem t (queued (m .delays)) → t < m .plan .threads
+  delayed-known t i = omega (arith, threads-view (m .plan), f .agree .sized, delayed-below (f .sleeps) t i)
+
   -- a list of threads without repeats fits, and so it does with one more that is not in it
   pub threads-fit : (l : List ℕ) → Distinct l → ((t : ℕ) → Mem t l → t < m .plan .threads) → length l ≤ 16
   threads-fit l once known = omega (arith, f .fits .threads, pigeonhole (m .plan .threads) l once known)
@@ -42,6 +45,9 @@ module _ {m : Machine} (f : Facts m) where
       below : (u : ℕ) → (u ≡ t) ⊎ Mem u l → u < m .plan .threads
       below u (inl e) = omega arith
       below u (inr i) = known u i
+
+  pub delays-fit : m .delays .count ≤ 16
+  delays-fit = omega (arith, length-queued (m .delays), threads-fit (queued (m .delays)) (f .sleeps .delaysOnce) delayed-known)
 
   -- a thread that is not ready is not in the queue, which therefore has room for it
   pub queue-room : (t : ℕ) → t < m .plan .threads → (condition (idle m) t ≡ ready → ⊥) → m .queue .count < 16
@@ -66,7 +72,7 @@ module _ {m : Machine} (f : Facts m) where
       woken = sleepers n (idle m)
 
       once : Distinct woken
-      once = pairwise-filter (λ (a b : ℕ). a ≢ b) (λ u. sleepsUntil n (condition (idle m) u)) (upTo (length (idle m .conditions))) (upTo-distinct (length (idle m .conditions)))
+      once = pairwise-filter (λ (a b : ℕ). a ≢ b) (λ u. sleepsUntil n (condition (idle m) u)) (queued (m .delays)) (f .sleeps .delaysOnce)
 
       apart : (a b : ℕ) → Mem a queue → Mem b woken → a ≢ b
       apart a b i j e = omega (arith, ap tag (sym (f .agree .queued a i) ∙ ap (condition (idle m)) e ∙ sleeper n (idle m) b j .1))
@@ -99,7 +105,17 @@ module _ {m : Machine} {x : ℕ} (r : Runs m x) where
       queue : List ℕ
       queue = queued (m .queue)
 
-  -- the caller is ready, so it does not wait
+  -- the caller is ready, so it does not sleep
+  pub delays-room : m .delays .count < 16
+  delays-room = omega (arith, length-queued (m .delays), one-more f x (queued (m .delays)) (f .sleeps .delaysOnce) (delayed-known f) caller-known runs)
+    where
+      f : Facts m
+      f = facts (r .formed)
+
+      runs : Mem x (queued (m .delays)) → ⊥
+      runs i = omega (arith, ap tag (sym (f .agree .queued x caller-queued) ∙ f .sleeps .sleeping x i .1))
+
+  -- and does not wait
   pub waits-room : m .waits .count < 16
   waits-room = omega (arith, length-queued (m .waits), one-more f x (queued (m .waits)) (f .agree .waitsOnce) (waiting-known f) caller-known runs)
     where

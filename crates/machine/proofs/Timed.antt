@@ -34,7 +34,7 @@ use Rattle.machine.proofs.Outcomes.{caller-asked, call-answers}
 
 -- a machine with other timers
 abbrev pub retimed : Machine → Timers → Machine
-retimed m ts = record { plan = m .plan; tick = m .tick; slots = m .slots; wakes = m .wakes; queue = m .queue; holds = m .holds; waits = m .waits; reported = m .reported; timers = ts }
+retimed m ts = record { plan = m .plan; tick = m .tick; slots = m .slots; wakes = m .wakes; queue = m .queue; holds = m .holds; waits = m .waits; delays = m .delays; reported = m .reported; timers = ts }
 
 -- with other timers and reports it stands for this state
 seen-so : (m : Machine) (ts : Timers) (rs : Reports) {to : model.Timers} {due : List records.Report} → timing.view ts ≡ to → owed rs ≡ due → viewed (retimed m ts) (owed rs) ≡ state.setTimers to (viewed m due)
@@ -72,6 +72,6 @@ module _ {c : Reporting} {ceilings : List ℕ} {k : TimerCall} (a : Calls c ceil
       go (inl z) = ap (chosen (planOf (c .machine))) (made .made z) ∙ chosen-timed (planOf (c .machine)) k (idle (c .machine))
       go (inr d) = ap (chosen (planOf (c .machine))) (made .kept d)
 
-  -- what is answered: the chosen thread is kept, and what happens next is no longer known
-  pub timer-answers : Called (owing left rs rule (c .chosen) (record { 0 = 0 })) c (Timing k)
+  -- what is answered: the chosen thread is still the one reported, and what happens next is no longer known
+  pub timer-answers : Called (owing left rs rule (c .machine .reported) (record { 0 = 0 })) c (Timing k)
   timer-answers = record { answers = call-answers a made (caller-asked a .caller' ∙ ap numbered (sym still-chosen)) (unknown-quiet left); quiet' = refl }

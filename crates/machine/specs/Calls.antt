@@ -12,10 +12,8 @@ use Rattle.model.specs.Records as records
 use Rattle.model.specs.State.{asleep}
 use Rattle.model.specs.Timers.{Timer, slot, setTimer, lateDue}
 use Rattle.model.specs.Rules.{stage, callPlace, broken}
-use Rattle.model.specs.Priorities.{chosen}
 use Rattle.model.specs.Runs.{moved, broke, step}
 use Rattle.model.specs.Formed.{formed, lastTick}
-use Rattle.lists.specs.Lists.{numbered}
 use Rattle.clock.specs.declared.time.Tick.{Tick}
 use Rattle.clock.specs.declared.timers.Timers.{Timers}
 use Rattle.clock.specs.View as timing
@@ -43,9 +41,8 @@ pub record QuietUntil (until threads : ℕ) (slots : Slots) (wakes : List Tick) 
 abbrev pub Quiet : Machine → (until : ℕ) → Type 0
 Quiet m until = QuietUntil until (m .plan .threads) (m .slots) (m .wakes) (m .timers)
 
--- what is carried beside the machine is what it should be: the chosen thread, the place of the Switch, the tick number before which nothing happens
+-- what is carried beside the machine is what it should be: the place of the Switch, the tick number before which nothing happens
 pub record Stands (c : Reporting) : Type 0 where
-  pub chosen' : c .chosen ≡ numbered (chosen (planOf (c .machine)) (shown c))
   pub apart' : Apart c
   pub quiet' : Quiet (c .machine) (c .quiet .0)
 
@@ -126,7 +123,7 @@ abbrev pub told : Reporting → (reported : ℕ) → Reporting
 told c x =
     let m = c .machine in
     record {
-      machine = record { plan = m .plan; tick = m .tick; slots = m .slots; wakes = m .wakes; queue = m .queue; holds = m .holds; waits = m .waits; reported = x; timers = m .timers };
+      machine = record { plan = m .plan; tick = m .tick; slots = m .slots; wakes = m .wakes; queue = m .queue; holds = m .holds; waits = m .waits; delays = m .delays; reported = x; timers = m .timers };
       reports = c .reports;
       count = c .count;
       due = c .due;

@@ -1,14 +1,13 @@
 -- What the machine's functions other than the calls ask and answer.
 use mathlib.Core.Path.{_≡_}
-use mathlib.Core.Bool.{cond, not, _&&_}
+use mathlib.Core.Bool.{Bool, cond, not, _&&_}
 use mathlib.Core.List.{List, [], _∷_, map, tail, List·Memᴰ as Mem}
 use Prim.Native.Nat.{ℕ, _+_, min, _≤_, _<_}
-use lib.Dec.{T, eqb}
+use lib.Dec.{T, eqb, leb, ltb}
 use lib.ListN.{length}
 use Rattle.model.specs.Searches.{upTo}
 use Rattle.model.specs.Plan as plan
 use Rattle.model.specs.State as state
-use Rattle.model.specs.State.{Condition, dormant, ready, asleep, waiting}
 use Rattle.model.specs.Timers.{isComplete}
 use Rattle.model.specs.Runs.{deliver}
 use Rattle.model.specs.Formed.{formed, lastWake}
@@ -22,6 +21,7 @@ use Rattle.lists.specs.Choice.{Counts}
 use Rattle.clock.specs.declared.time.Tick.{Tick}
 use Rattle.clock.specs.declared.timers.Timers.{Timers}
 use Rattle.clock.specs.View as timing
+use Rattle.clock.specs.View.{numberAt}
 use Rattle.clock.specs.Contracts.{soonest as soonestExpiry}
 use Rattle.machine.specs.declared.Machine.{Machine}
 use Rattle.machine.specs.declared.slots.Slots.{Slots}
@@ -30,7 +30,7 @@ use Rattle.machine.specs.declared.reports.Reports.{Reports}
 use Rattle.machine.specs.declared.reporting.Reporting.{Reporting}
 use Rattle.machine.specs.declared.state.State.{State}
 use Rattle.machine.specs.Lists.{reportOf}
-use Rattle.machine.specs.View.{conditionsOf, planOf, idle, view}
+use Rattle.machine.specs.View.{planOf, idle, view}
 
 -- a thread comes into another condition, or waits for a section
 
@@ -40,24 +40,17 @@ placed s t k = record { states = withNibble (s .states) t k; wants = s .wants }
 abbrev pub waitsFor : Slots → (thread section : ℕ) → Slots
 waitsFor s t n = record { states = withNibble (s .states) t 3; wants = withNibble (s .wants) t n }
 
--- the tick number that a sleeper waits for; for any other thread the greatest that there can be
-abbrev pub wakesAt : Condition → ℕ
-wakesAt dormant = lastWake
-wakesAt ready = lastWake
-wakesAt (asleep n) = n
-wakesAt (waiting s) = lastWake
-
--- the least tick number that a sleeper waits for, lastWake where nobody sleeps before it
-abbrev pub soonest : List Condition → ℕ
-soonest [] = lastWake
-soonest (c ∷ cs) = min (wakesAt c) (soonest cs)
+-- the least tick number that one of these sleepers waits for, lastWake where nobody sleeps before it
+abbrev pub soonest : (wakes : List Tick) (delays : List ℕ) → ℕ
+soonest wakes [] = lastWake
+soonest wakes (t ∷ ts) = min (numberAt wakes t) (soonest wakes ts)
 
 -- The tick number before which nobody wakes and no timer expires. Inside an arming every Tick breaks a rule, so it is 0 there.
-abbrev pub nextEvent : (threads : ℕ) → Slots → (wakes : List Tick) → Timers → ℕ
-nextEvent threads slots wakes timers = cond (isComplete (timing.view timers .arming)) (min (soonest (conditionsOf threads slots wakes)) (soonestExpiry (timing.view timers .slots))) 0
+abbrev pub nextEvent : (delays : Queue) (wakes : List Tick) → Timers → ℕ
+nextEvent delays wakes timers = cond (isComplete (timing.view timers .arming)) (min (soonest wakes (queued delays)) (soonestExpiry (timing.view timers .slots))) 0
 
 abbrev pub nextEventOf : Machine → ℕ
-nextEventOf m = nextEvent (m .plan .threads) (m .slots) (m .wakes) (m .timers)
+nextEventOf m = nextEvent (m .delays) (m .wakes) (m .timers)
 
 -- the lists are within their words, and those in the queue and in the waits are threads
 pub record Listed (threads : ℕ) (queue : Queue) (holds : Holds) (waits : Queue) : Type 0 where
@@ -70,11 +63,11 @@ pub record Listed (threads : ℕ) (queue : Queue) (holds : Holds) (waits : Queue
 abbrev pub Ceilings : Machine → List ℕ → Type 0
 Ceilings m ceilings = ceilings ≡ map (plan.ceiling (planOf m)) (upTo 16)
 
--- what finding the chosen thread asks: a valid plan with its ceilings, and lists that name its threads
+-- what finding the chosen thread asks: a valid plan, lists that name its threads, and where somebody waits the ceilings
 pub record Chooses (m : Machine) (ceilings : List ℕ) : Type 0 where
   pub valid : T (plan.validPlan (planOf m))
   pub listed : Listed (m .plan .threads) (m .queue) (m .holds) (m .waits)
-  pub ceilings' : Ceilings m ceilings
+  pub ceilings' : 0 < m .waits .count → Ceilings m ceilings
 
 -- a machine at its start, and with nothing due
 
@@ -105,9 +98,9 @@ pub record Delivers (r s : State) (given : Report) : Type 0 where
   pub plan' : r .machine .plan ≡ s .machine .plan
   pub seen : view r ≡ deliver (reportOf given) (view s)
 
--- a state to be moved on from, with its chosen thread
-abbrev pub opened : State → (chosen : ℕ) → Reporting
-opened s x = record { machine = s .machine; reports = s .due .items; count = s .due .count; due = s .due .count; given = s .given; chosen = x; quiet = record { 0 = 0 }; rule = 0 }
+-- a state to be moved on from: all its reports stand in the array, so that no Switch to a chosen thread stands apart
+abbrev pub opened : State → Reporting
+opened s = record { machine = s .machine; reports = s .due .items; count = s .due .count; due = s .due .count; given = s .given; chosen = 255; quiet = record { 0 = 0 }; rule = 0 }
 
 -- A machine with these reports due, and a Switch behind them where the chosen thread is not the one reported. Where a rule is broken there is
 -- none.
@@ -124,27 +117,15 @@ owing m rs rule x quiet =
       rule = rule;
     }
 
--- with the tick number before which nothing happens
-abbrev pub quieted : Reporting → Reporting
-quieted c =
-    let m = c .machine in
-    record {
-      machine = m;
-      reports = c .reports;
-      count = c .count;
-      due = c .due;
-      given = c .given;
-      chosen = c .chosen;
-      quiet = record { 0 = nextEventOf m };
-      rule = c .rule;
-    }
+-- after a Tick at which nothing happens the tick number has grown by one, and nothing else has changed
 
--- a Tick at which nothing happens: the tick number grows by one, and nothing else changes
+abbrev pub nextTick : Machine → Machine
+nextTick m = record { plan = m .plan; tick = record { 0 = m .tick .0 + 1 }; slots = m .slots; wakes = m .wakes; queue = m .queue; holds = m .holds; waits = m .waits; delays = m .delays; reported = m .reported; timers = m .timers }
+
 abbrev pub passed : Reporting → Reporting
 passed c =
-    let m = c .machine in
     record {
-      machine = record { plan = m .plan; tick = record { 0 = m .tick .0 + 1 }; slots = m .slots; wakes = m .wakes; queue = m .queue; holds = m .holds; waits = m .waits; reported = m .reported; timers = m .timers };
+      machine = nextTick (c .machine);
       reports = c .reports;
       count = c .count;
       due = c .due;
@@ -153,3 +134,10 @@ passed c =
       quiet = c .quiet;
       rule = c .rule;
     }
+
+abbrev pub later : State → State
+later s = record { machine = nextTick (s .machine); due = s .due; given = s .given }
+
+-- nothing is due in a state, and nothing happens at its next Tick
+abbrev pub still : State → Bool
+still s = leb (s .due .count) (s .given) && ltb (s .machine .tick .0 + 1) (nextEventOf (s .machine))

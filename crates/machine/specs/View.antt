@@ -48,6 +48,7 @@ viewed m due =
       queue = queued (m .queue);
       holds = held (m .holds);
       waits = queued (m .waits);
+      delays = queued (m .delays);
       reported = threadOf (m .reported);
       due = due;
       timers = timing.view (m .timers);

@@ -1,5 +1,5 @@
 // What each call does. A method takes the machine by value, with nothing due, and hands it back with all the reports that the call makes due,
-// its Switch last, or with the rule that it breaks.
+// its Switch last, or with the rule that it breaks. With nothing due the chosen thread is the one last reported: it is the caller.
 ghost use Rattle.model.specs.Records as records;
 ghost use Rattle.machine.specs.Calls.{Calls, Called};
 use crate::quiet::next_event;
@@ -7,11 +7,10 @@ use crate::reporting::Reporting;
 use crate::reports::Made;
 use crate::reports::Reports;
 use crate::rules;
-use crate::slots;
 use clock::time::Tick;
 use clock::time::Wait;
 use lists::choice;
-use lists::nibbles::nibble_at;
+use lists::queue::Queue;
 use plan::lookup::base;
 
 impl Reporting {
@@ -35,36 +34,42 @@ impl Reporting {
         c.owing(m, rule, who, self.quiet)
     }
 
-    // Tick: see model, Calls.tick. What happens next is asked anew.
+    // Tick: see model, Calls.tick. It walks over the sleepers in the order of their Delays; what happens next is asked anew.
     pub fn tick(self, ceilings: &[u8; 16]) -> Reporting
         requires { ⌜ Calls self (now ceilings) records.Tick ⌝ }
         ensures { λ r. ⌜ Called r self records.Tick ⌝ }
     {
-        let n = self.machine.plan.threads;
         let now = self.machine.tick;
         let number = now.next();
-        let asleep = self.machine.slots;
         let wakes = self.machine.wakes;
+        let mut rest = self.machine.delays.items;
+        let mut left = self.machine.delays.count;
+        let mut delays = Queue::none();
         let mut slots = self.machine.slots;
         let mut queue = self.machine.queue;
-        let timers = self.machine.timers;
-        let mut rs = Reports::expired(timers, number);
-        let mut i: usize = 0;
-        while i < n {
-            let state = nibble_at(asleep.states, i as u8);
-            if slots::sleeps_until(state, wakes[i], number) {
-                slots = slots.placed(i as u8, 1);
-                queue = queue.push(i as u8);
-                rs = rs.push(16, i as u8);
+        let mut woken = Queue::none();
+        while 0 < left {
+            let t = (rest % 16) as u8;
+            rest = rest / 16;
+            left -= 1;
+            let wake = wakes[t as usize];
+            if wake.0 == number.0 {
+                slots = slots.placed(t, 1);
+                queue = queue.push(t);
+                woken = woken.push(t);
+            } else {
+                delays = delays.push(t);
             }
-            i += 1;
         }
+        let timers = self.machine.timers;
+        let rs = Reports::expired(timers, number).readied(woken);
         let later = timers.moved_on(number);
-        let quiet = next_event(n, slots, wakes, later);
+        let quiet = next_event(delays, wakes, later);
         let mut m = self.machine;
         m.tick = number;
         m.slots = slots;
         m.queue = queue;
+        m.delays = delays;
         m.timers = later;
         let who = m.chosen(ceilings);
         self.telling(rs).owing(m, 0, who, quiet)
@@ -76,7 +81,7 @@ impl Reporting {
         ensures { λ r. ⌜ Called r self (records.Delay (wait .0)) ⌝ }
     {
         let mut m = self.machine;
-        let caller = self.chosen;
+        let caller = m.reported;
         let rule = rules::free_rule(m.holds, caller);
         if rule == 0 {
             let over = m.tick.plus(wait);
@@ -88,6 +93,8 @@ impl Reporting {
             m.wakes = wakes;
             let queue = m.queue.without(caller);
             m.queue = queue;
+            let delays = m.delays.push(caller);
+            m.delays = delays;
         }
         let c = self.making(Made::none());
         let who = m.chosen(ceilings);
@@ -101,7 +108,7 @@ impl Reporting {
     {
         let mut m = self.machine;
         let mut made = Made::none();
-        let caller = self.chosen;
+        let caller = m.reported;
         let rule = rules::run_rule(caller);
         if rule == 0 {
             let bases = m.plan.bases;
@@ -123,7 +130,7 @@ impl Reporting {
         ensures { λ r. ⌜ Called r self records.End ⌝ }
     {
         let mut m = self.machine;
-        let caller = self.chosen;
+        let caller = m.reported;
         let rule = rules::free_rule(m.holds, caller);
         if rule == 0 {
             let slots = m.slots.placed(caller, 0);
@@ -143,7 +150,7 @@ impl Reporting {
     {
         let mut m = self.machine;
         let mut made = Made::none();
-        let caller = self.chosen;
+        let caller = m.reported;
         let bases = m.plan.bases;
         let needs = m.plan.needs;
         let rule = rules::take_rule(m.plan.threads, needs, m.holds, caller, section);
@@ -175,7 +182,7 @@ impl Reporting {
     {
         let mut m = self.machine;
         let mut made = Made::none();
-        let caller = self.chosen;
+        let caller = m.reported;
         let bases = m.plan.bases;
         let rule = rules::give_rule(m.holds, caller, section);
         if rule == 0 {

@@ -17,8 +17,8 @@ use lists::queue::Queue;
 use plan::Plan;
 use slots::Slots;
 
-// Plain numbers only, since a state may be lent from outside. `wakes` has the tick number that each sleeper waits for; `reported` is the
-// thread of the latest Switch given, 255 for nobody.
+// Plain numbers only, since a state may be lent from outside. `wakes` has the tick number that each sleeper waits for, `delays` the sleepers in order of
+// their Delay calls; `reported` is the thread of the latest Switch given, 255 for nobody.
 #[repr(C)]
 pub struct Machine {
     pub plan: Plan,
@@ -28,6 +28,7 @@ pub struct Machine {
     pub queue: Queue,
     pub holds: Holds,
     pub waits: Queue,
+    pub delays: Queue,
     pub reported: u8,
     pub timers: Timers,
 }

@@ -1,24 +1,46 @@
-// Ticks at which nothing happens: nobody wakes, no timer expires and no Switch becomes due, so that they move the tick number alone.
+// Ticks at which nothing happens: nobody wakes and no timer expires, so that no Switch becomes due and they move the tick number alone.
 ghost use mathlib.Core.Path.{_≡_};
-ghost use mathlib.Core.Bool.{_&&_};
 ghost use Prim.Native.Nat.{_+_, _≤_, _<_};
-ghost use lib.Dec.{eqb, ltb};
+ghost use lib.Dec.{ltb};
 ghost use Rattle.model.specs.Formed.{lastTick};
-ghost use Rattle.machine.specs.Contracts.{nextEvent, quieted, passed};
+ghost use Rattle.lists.specs.Lists.{queued};
+ghost use Rattle.machine.specs.Contracts.{soonest, nextEvent, passed, still, later};
 use crate::reporting::Reporting;
-use crate::slots::Slots;
+use crate::state::State;
+use clock::time::LAST_WAKE;
 use clock::time::Tick;
 use clock::timers::Timers;
+use lists::queue::Queue;
+
+// The least tick number that one of these sleepers waits for, LAST_WAKE where nobody sleeps before it.
+fn soonest(delays: Queue, wakes: [Tick; 16]) -> Tick
+    requires { ⌜ delays .count ≤ 16 ⌝ }
+    ensures { λ r. ⌜ r .0 ≡ soonest wakes (queued delays) ⌝ }
+{
+    let mut first = LAST_WAKE;
+    let mut rest = delays.items;
+    let mut left = delays.count;
+    while 0 < left {
+        let t = (rest % 16) as usize;
+        rest = rest / 16;
+        left -= 1;
+        let wake = wakes[t];
+        if wake.0 < first.0 {
+            first = wake;
+        }
+    }
+    first
+}
 
 // The tick number before which nobody wakes and no timer expires, 0 inside an arming, where every Tick breaks a rule. It takes the parts that it reads,
 // so that the machine of the walk stays in its fields.
-pub(crate) fn next_event(threads: usize, slots: Slots, wakes: [Tick; 16], timers: Timers) -> Tick
-    requires { ⌜ threads ≤ 16 ⌝ }
-    ensures { λ r. ⌜ r .0 ≡ nextEvent threads slots wakes timers ⌝ }
+pub(crate) fn next_event(delays: Queue, wakes: [Tick; 16], timers: Timers) -> Tick
+    requires { ⌜ delays .count ≤ 16 ⌝ }
+    ensures { λ r. ⌜ r .0 ≡ nextEvent delays wakes timers ⌝ }
 {
     let mut first = Tick(0);
     if timers.is_complete() {
-        first = slots.soonest(wakes, threads);
+        first = soonest(delays, wakes);
         let next = timers.soonest();
         if next.0 < first.0 {
             first = next;
@@ -28,32 +50,15 @@ pub(crate) fn next_event(threads: usize, slots: Slots, wakes: [Tick; 16], timers
 }
 
 impl Reporting {
-    // With the tick number before which nothing happens, asked of the sleepers and the timers.
-    pub fn quieted(self) -> Reporting
-        requires { ⌜ self .machine .plan .threads ≤ 16 ⌝ }
-        ensures { λ r. ⌜ r ≡ quieted self ⌝ }
-    {
-        let mut c = self;
-        let wakes = self.machine.wakes;
-        let until = next_event(
-            self.machine.plan.threads,
-            self.machine.slots,
-            wakes,
-            self.machine.timers,
-        );
-        c.quiet = until;
-        c
-    }
-
-    // Whether the next Tick wakes nobody, no timer expires at it, and it makes no Switch due.
+    // Whether the next Tick wakes nobody and no timer expires at it.
     pub fn is_quiet(self) -> bool
         requires { ⌜ self .machine .tick .0 < lastTick ⌝ }
-        ensures { λ r. ⌜ r ≡ ltb (self .machine .tick .0 + 1) (self .quiet .0) && eqb (self .chosen) (self .machine .reported) ⌝ }
+        ensures { λ r. ⌜ r ≡ ltb (self .machine .tick .0 + 1) (self .quiet .0) ⌝ }
     {
         let now = self.machine.tick;
         let number = now.next();
         let until = self.quiet;
-        number.0 < until.0 && self.chosen == self.machine.reported
+        number.0 < until.0
     }
 
     // The tick number grows, and nothing else changes.
@@ -66,5 +71,31 @@ impl Reporting {
         let number = now.next();
         c.machine.tick.0 = number.0;
         c
+    }
+}
+
+impl State {
+    // Whether nothing is due, and the next Tick wakes nobody and no timer expires at it.
+    pub fn is_still(self) -> bool
+        requires { ⌜ (self .machine .tick .0 < lastTick) × (self .machine .delays .count ≤ 16) ⌝ }
+        ensures { λ r. ⌜ r ≡ still self ⌝ }
+    {
+        let now = self.machine.tick;
+        let number = now.next();
+        let wakes = self.machine.wakes;
+        let until = next_event(self.machine.delays, wakes, self.machine.timers);
+        self.due.count <= self.given && number.0 < until.0
+    }
+
+    // After such a Tick: the tick number grows, and nothing else changes.
+    pub fn later(self) -> State
+        requires { ⌜ self .machine .tick .0 < lastTick ⌝ }
+        ensures { λ r. ⌜ r ≡ later self ⌝ }
+    {
+        let mut s = self;
+        let now = self.machine.tick;
+        let number = now.next();
+        s.machine.tick.0 = number.0;
+        s
     }
 }

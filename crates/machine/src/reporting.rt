@@ -2,7 +2,6 @@
 // call but a Tick each report has a place that is known when the code is compiled.
 ghost use mathlib.Core.Path.{_≡_};
 ghost use Prim.Native.Nat.{_<_};
-ghost use lib.Dec.{ltb};
 ghost use Rattle.model.specs.Priorities.{chosen};
 ghost use Rattle.lists.specs.Lists.{numbered};
 ghost use Rattle.machine.specs.Lists.{reportRoom, Stores};
@@ -21,8 +20,8 @@ use lists::holds::Holds;
 use lists::queue::Queue;
 use plan::Plan;
 
-// `count` reports stand in the array; `due` is how many the call made due, one more where a Switch to the chosen thread is among them. The first
-// `given` are given.
+// `count` reports stand in the array; `due` is how many the call made due, one more where a Switch is among them, to the thread `chosen` after the call.
+// The first `given` are given.
 // Nothing happens before the tick number `quiet`. `rule` is the one that the latest record broke, 0 if there is none.
 pub struct Reporting {
     pub machine: Machine,
@@ -51,6 +50,7 @@ impl Machine {
             queue: Queue::none(),
             holds: Holds::none(),
             waits: Queue::none(),
+            delays: Queue::none(),
             reported: 255,
             timers: Timers::none(),
         }
@@ -67,13 +67,6 @@ impl Machine {
 }
 
 impl Reporting {
-    // Whether a report is due.
-    pub fn owes(self) -> bool
-        ensures { λ r. ⌜ r ≡ ltb (self .given) (self .due) ⌝ }
-    {
-        self.given < self.due
-    }
-
     // With the reports of a call other than Tick. They are stored whatever they are: a store that depends on a test copies the array.
     pub(crate) fn making(self, made: Made) -> Reporting
         ensures { λ r. ⌜ Stores (reportsIn r) made ⌝ }

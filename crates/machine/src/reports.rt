@@ -1,14 +1,16 @@
 // The reports that a call makes due, in order: at most one for each thread and each timer, and a Switch.
 ghost use mathlib.Core.Path.{_≡_};
 ghost use mathlib.Core.List.{[], _∷_, _++_, map};
-ghost use Prim.Native.Nat.{_<_, min};
+ghost use Prim.Native.Nat.{_+_, _≤_, _<_, min};
 ghost use Rattle.model.specs.Records.{Ready, Won, Expire, Late};
 ghost use Rattle.model.specs.Timers as model;
+ghost use Rattle.lists.specs.Lists.{queued};
 ghost use Rattle.clock.specs.View as timing;
 ghost use Rattle.machine.specs.Lists.{reportRoom, reportOf, switchTo, owed, Tells};
 use clock::time::Tick;
 use clock::timers::TIMERS;
 use clock::timers::Timers;
+use lists::queue::Queue;
 
 // Room for the reports of sixteen threads and eight timers, and a Switch.
 pub const ROOM: usize = 25;
@@ -120,32 +122,44 @@ impl Reports {
         }
     }
 
-    // One more at the end, of this thread or timer.
-    pub(crate) fn push(self, kind: u8, who: u8) -> Reports
-        requires { ⌜ self .count < reportRoom ⌝ }
-        ensures { λ r. ⌜ owed r ≡ owed self ++ (reportOf (record { kind = kind; spare = 0; operand = who }) ∷ []) ⌝ }
+    // A Ready more at the end for each of these threads.
+    pub(crate) fn readied(self, woken: Queue) -> Reports
+        requires { ⌜ (woken .count ≤ 16) × (self .count + woken .count ≤ reportRoom) ⌝ }
+        ensures { λ r. ⌜ owed r ≡ owed self ++ map Ready (queued woken) ⌝ }
     {
-        let mut rs = self;
-        let n = rs.count;
-        let r = Report::of(kind, who);
-        rs.items[n] = r;
-        rs.count = n + 1;
-        rs
+        let mut items = self.items;
+        let mut n = self.count;
+        let mut rest = woken.items;
+        let mut left = woken.count;
+        while 0 < left {
+            let t = (rest % 16) as u8;
+            rest = rest / 16;
+            left -= 1;
+            let r = Report::of(16, t);
+            items[n] = r;
+            n += 1;
+        }
+        Reports { items, count: n }
     }
 
-    // Expire for each timer whose tick number this is, lower timer first.
+    // Expire for each timer whose tick number this is, lower timer first. Here and above the array is a variable of the loop: in a function that stores
+    // one report and hands the array back, it would be copied for each.
     pub(crate) fn expired(timers: Timers, number: Tick) -> Reports
         requires { ⌜ 0 < number .0 ⌝ }
         ensures { λ r. ⌜ owed r ≡ map Expire (model.expired (number .0) (timing.view timers)) ⌝ }
     {
-        let mut rs = Reports::none();
+        let z = Report::of(0, 0);
+        let mut items = [z; ROOM];
+        let mut n: usize = 0;
         let mut i: usize = 0;
         while i < TIMERS {
             if timers.expires(i, number) {
-                rs = rs.push(21, i as u8);
+                let r = Report::of(21, i as u8);
+                items[n] = r;
+                n += 1;
             }
             i += 1;
         }
-        rs
+        Reports { items, count: n }
     }
 }

@@ -1,13 +1,9 @@
 // The conditions of the threads.
 ghost use mathlib.Core.Path.{_≡_};
-ghost use mathlib.Core.Bool.{_&&_};
-ghost use Prim.Native.Nat.{_≤_, _<_};
+ghost use Prim.Native.Nat.{_<_};
 ghost use lib.Dec.{eqb};
 ghost use Rattle.lists.specs.Words.{nibble};
-ghost use Rattle.machine.specs.View.{conditionsOf};
-ghost use Rattle.machine.specs.Contracts.{placed, waitsFor, soonest};
-use clock::time::LAST_WAKE;
-use clock::time::Tick;
+ghost use Rattle.machine.specs.Contracts.{placed, waitsFor};
 use lists::nibbles::nibble_at;
 use lists::nibbles::with_nibble;
 
@@ -56,29 +52,4 @@ impl Slots {
     {
         nibble_at(self.wants, thread)
     }
-
-    // The least tick number that a sleeper waits for, LAST_WAKE where nobody sleeps before it.
-    pub(crate) fn soonest(self, wakes: [Tick; 16], threads: usize) -> Tick
-        requires { ⌜ threads ≤ 16 ⌝ }
-        ensures { λ r. ⌜ r .0 ≡ soonest (conditionsOf threads self wakes) ⌝ }
-    {
-        let mut first = LAST_WAKE;
-        let mut t: usize = 0;
-        while t < threads {
-            let state = nibble_at(self.states, t as u8);
-            let wake = wakes[t];
-            if state == 2 && wake.0 < first.0 {
-                first = wake;
-            }
-            t += 1;
-        }
-        first
-    }
-}
-
-// Whether a thread in this condition sleeps until this tick number.
-pub(crate) fn sleeps_until(state: u8, wake: Tick, number: Tick) -> bool
-    ensures { λ r. ⌜ r ≡ eqb state 2 && eqb (wake .0) (number .0) ⌝ }
-{
-    state == 2 && wake.0 == number.0
 }

@@ -77,9 +77,9 @@ impl State {
         }
     }
 
-    // To be moved on from, with its chosen thread: all reports stand in the array, and what happens next is not known.
-    pub fn opened(self, chosen: u8) -> Reporting
-        ensures { λ r. ⌜ r ≡ opened self chosen ⌝ }
+    // To be moved on from: all reports stand in the array, none apart, and what happens next is not known.
+    pub fn opened(self) -> Reporting
+        ensures { λ r. ⌜ r ≡ opened self ⌝ }
     {
         let machine = self.machine;
         let rs = self.due;
@@ -90,7 +90,7 @@ impl State {
             count: rs.count,
             due: rs.count,
             given: self.given,
-            chosen,
+            chosen: 255,
             quiet: Tick(0),
             rule: 0,
         }

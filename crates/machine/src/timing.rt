@@ -1,5 +1,5 @@
 // What the calls that set timers do: Arm, Start and Period in a row arm one, Cancel unarms it. None of them moves a thread, so the chosen thread
-// stays; what happens next is no longer known.
+// stays the one reported; what happens next is no longer known.
 ghost use Prim.Native.Nat.{_≤_};
 ghost use Rattle.model.specs.Records as records;
 ghost use Rattle.machine.specs.Calls.{Sets, Called, Timed};
@@ -16,7 +16,7 @@ impl Reporting {
         ensures { λ r. ⌜ Called r self (records.Timing (records.Arm timer)) ⌝ }
     {
         let t = self.machine.timers;
-        let rule = rules::run_rule(self.chosen);
+        let rule = rules::run_rule(self.machine.reported);
         self.timed(t.begun(rule == 0, timer), Made::none(), rule)
     }
 
@@ -26,7 +26,7 @@ impl Reporting {
         ensures { λ r. ⌜ Called r self (records.Timing (records.Start number)) ⌝ }
     {
         let t = self.machine.timers;
-        let rule = rules::run_rule(self.chosen);
+        let rule = rules::run_rule(self.machine.reported);
         self.timed(t.started(rule == 0, number), Made::none(), rule)
     }
 
@@ -37,7 +37,7 @@ impl Reporting {
     {
         let t = self.machine.timers;
         let now = self.machine.tick;
-        let rule = rules::run_rule(self.chosen);
+        let rule = rules::run_rule(self.machine.reported);
         let mut made = Made::none();
         if rule == 0 {
             made = Made::late(t.lost(now, ticks));
@@ -51,7 +51,7 @@ impl Reporting {
         ensures { λ r. ⌜ Called r self (records.Timing (records.Cancel timer)) ⌝ }
     {
         let t = self.machine.timers;
-        let rule = rules::cancel_rule(t, self.chosen, timer);
+        let rule = rules::cancel_rule(t, self.machine.reported, timer);
         self.timed(t.cancelled(rule == 0, timer), Made::none(), rule)
     }
 
@@ -62,7 +62,7 @@ impl Reporting {
     {
         let mut m = self.machine;
         m.timers = timers;
-        let caller = self.chosen;
+        let caller = self.machine.reported;
         self.making(made).owing(m, rule, caller, Tick(0))
     }
 }

@@ -25,7 +25,7 @@ Front d due = T (all plain due) ⊎ ((ds : List Report) × (due ≡ d ∷ ds) ×
 
 module _ (p : Plan) (rs : List Record) (tr : Trace p rs) where
   grows-at : (k : ℕ) (h : k < length rs) → Grows (tr .at k) (look rs k h .0) (tr .at (suc k))
-  grows-at k h = let r = look rs k h in grows p (tr .at k) (invariant p rs tr k (omega arith) .sound) (tr .moves k (r .0) (r .1))
+  grows-at k h = let r = look rs k h in grows p (tr .at k) (invariant p rs tr k (omega arith)) (tr .moves k (r .0) (r .1))
 
   -- while no Take or Give comes, the front stays or is given
   front-on : (d : Report) (k : ℕ) → k < length rs → (TakeOrGive rs k → ⊥) → Front d (tr .at k .due) → Front d (tr .at (suc k) .due)

@@ -13,7 +13,6 @@ use Rattle.model.specs.Plan.{Plan, validPlan}
 use Rattle.model.specs.Records.{Call, Report, Record, call, report, reportKind, operand, allowedCall, allowed}
 use Rattle.model.specs.Timers.{isComplete}
 use Rattle.model.specs.State.{State, start, switchedTo, latestSwitch, setReported, setDue}
-use Rattle.model.specs.Priorities.{greatestHold, current, chosen}
 use Rattle.model.specs.Rules.{stage, broken}
 use Rattle.model.specs.Runs.{effect, deliver, Outcome, moved, broke, step, clean, run, judge, Clean}
 use Rattle.model.specs.Bench.{deliverAll, behind, benchFrom, bench, callsOf, Complete}
@@ -91,14 +90,10 @@ module _ (p : Plan) where
   unfolding bench
   bench-begins ks = refl
 
-  -- with every report given: the state is reached, and the chosen thread is the same
+  -- with every report given the state is reached
 
   pub settled-reached : (st : State) → Reached p st → Reached p (deliverAll st)
   settled-reached st r = reports-reach (st .due) st r
-
-  pub settled-chosen : (st : State) → chosen p (deliverAll st) ≡ chosen p st
-  unfolding chosen current greatestHold
-  settled-chosen st = refl
 
   bench-first : (st : State) (k : Call) (ks : List Call) (rs : List Record) → benchFrom p st (k ∷ ks) ≡ some rs → FirstCall p st k ks rs
   unfolding benchFrom

@@ -21,10 +21,11 @@ use Rattle.model.specs.Rules.{questions}
 use Rattle.model.specs.Runs.{effect}
 use Rattle.model.proofs.Tests.{split, and-left, and-right}
 use Rattle.model.proofs.Searches.{filtered, Pairwise, pairwise-filter, Distinct, upTo-at, upTo-distinct, pigeonhole}
-use Rattle.model.proofs.Invariant.{tag, OtherSection, Agree, SoundState}
+use Rattle.model.proofs.Invariant.{tag, OtherSection, Agree, SoundState, Invariant}
 use Rattle.model.proofs.Agreement.{inside}
 use Rattle.model.proofs.Performed.{Caller, Performed, created, delayed, kept, yielded, ended, won, lost as lost', freed, passed, refused, ticked, timed, AllYes, answered, idle, performed}
-use Rattle.model.proofs.Kept.{caller-queued, sleeper, performed-sound}
+use Rattle.model.proofs.Kept.{caller-queued, performed-sound}
+use Rattle.model.proofs.Sleeping.{sleeper}
 use Rattle.model.proofs.Reached.{Reached, begin, next, reached-invariant}
 
 -- the queue and the waits have each thread at most once
@@ -128,15 +129,29 @@ module _ (p : Plan) (st : State) (c : SoundState p st) where
   caller-below : {x : ℕ} → Caller p st x → x < threads p
   caller-below {x} e = queued-below p (c .agree) x (caller-queued p st c e)
 
+  -- the Switch is one report at most
+  switch-adds : Adds p 1 (st .due) (switch p st .due)
+  unfolding switch
+  switch-adds = go (same (lastReported st) (chosen p st))
+    where
+      known : (o : Option ℕ) → chosen p st ≡ o → T (isThread p o)
+      known none e = tt
+      known (some x) e = lt→ltb x (threads p) (caller-below e)
+
+      go : (b : Bool) → Adds p 1 (st .due) (cond b st (st ▷ owe (Switch (chosen p st) ∷ [])) .due)
+      go true = adds-none p
+      go false = record { new = Switch (chosen p st) ∷ []; joined = refl; few = omega arith; known = λ d m. rw (single m) (known (chosen p st) refl) }
+
+module _ (p : Plan) (st : State) (v : Invariant p st) where
   -- an heir, who is not the caller: two reports
   adds-two : (x w : ℕ) → Caller p st x → Mem w (st .waits) → Adds p (threads p + timerCount) (st .due) (st .due ++ Won w ∷ Ready w ∷ [])
-  adds-two x w e m = record { new = Won w ∷ Ready w ∷ []; joined = refl; few = omega (arith, caller-below e, h, other); known = λ d n. known d (cases-cons n) }
+  adds-two x w e m = record { new = Won w ∷ Ready w ∷ []; joined = refl; few = omega (arith, caller-below p st (v .sound) e, h, other); known = λ d n. known d (cases-cons n) }
     where
       h : w < threads p
-      h = waiting-below p (c .agree) w m
+      h = waiting-below p (v .sound .agree) w m
 
       other : x ≢ w
-      other q = omega (arith, ap tag (sym (c .agree .queued x (caller-queued p st c e)) ∙ ap (condition st) q ∙ c .agree .waiting' w m .1))
+      other q = omega (arith, ap tag (sym (v .sound .agree .queued x (caller-queued p st (v .sound) e)) ∙ ap (condition st) q ∙ v .sound .agree .waiting' w m .1))
 
       known : (d : Report) → (d ≡ Won w) ⊎ Mem d (Ready w ∷ []) → T (allowed p (report d))
       known d (inl q) = rw q (lt→ltb w (threads p) h)
@@ -169,10 +184,10 @@ module _ (p : Plan) (st : State) (c : SoundState p st) where
       endBelow i m = upTo-at timerCount (filtered (λ i. expiresAt n (slot (st .timers) i)) (upTo timerCount) m .0)
 
       once : Distinct woken
-      once = pairwise-filter _ (λ u. sleepsUntil n (condition st u)) (upTo (length (st .conditions))) (upTo-distinct (length (st .conditions)))
+      once = pairwise-filter _ (λ u. sleepsUntil n (condition st u)) (st .delays) (v .sleeps .delaysOnce)
 
       below : (t : ℕ) → Mem t woken → t < threads p
-      below t m = omega (arith, c .agree .sized, sleeper n st t m .0)
+      below t m = omega (arith, v .sound .agree .sized, sleeper n st t m .0)
 
       known : (d : Report) → Mem d (map Expire ended) ⊎ Mem d (map Ready woken) → T (allowed p (report d))
       known d (inl m) = let r = of-map Expire ended m in rw (← (r .2)) (lt→ltb (r .0) timerCount (endBelow (r .0) (r .1)))
@@ -190,28 +205,15 @@ module _ (p : Plan) (st : State) (c : SoundState p st) where
   call-adds a (created {t = t} d) = adds-one p (Ready t) a (omega arith)
   call-adds a (delayed x e f) = adds-none p
   call-adds a (kept x e) = adds-none p
-  call-adds a (yielded x e) = adds-one p (Yield x) (lt→ltb x (threads p) (caller-below e)) (omega arith)
+  call-adds a (yielded x e) = adds-one p (Yield x) (lt→ltb x (threads p) (caller-below p st (v .sound) e)) (omega arith)
   call-adds a (ended x e f) = adds-none p
-  call-adds a (won x e need clear fresh) = adds-one p (Won x) (lt→ltb x (threads p) (caller-below e)) (omega arith)
-  call-adds a (lost' x e need bar free) = adds-one p (Lost x) (lt→ltb x (threads p) (caller-below e)) (omega arith)
+  call-adds a (won x e need clear fresh) = adds-one p (Won x) (lt→ltb x (threads p) (caller-below p st (v .sound) e)) (omega arith)
+  call-adds a (lost' x e need bar free) = adds-one p (Lost x) (lt→ltb x (threads p) (caller-below p st (v .sound) e)) (omega arith)
   call-adds a (freed x e l none-waits) = adds-none p
   call-adds a (passed x w z e l g q clear) = adds-two x w e (g .0)
-  call-adds a (refused x w e l g b) = adds-one p (Lost w) (lt→ltb w (threads p) (waiting-below p (c .agree) w (g .0))) (omega arith)
+  call-adds a (refused x w e l g b) = adds-one p (Lost w) (lt→ltb w (threads p) (waiting-below p (v .sound .agree) w (g .0))) (omega arith)
   call-adds a ticked = tick-adds
   call-adds a (timed {k = k} x e) = timing-adds k
-
-  -- and the Switch is one more at most
-  switch-adds : Adds p 1 (st .due) (switch p st .due)
-  unfolding switch
-  switch-adds = go (same (lastReported st) (chosen p st))
-    where
-      known : (o : Option ℕ) → chosen p st ≡ o → T (isThread p o)
-      known none e = tt
-      known (some x) e = lt→ltb x (threads p) (caller-below e)
-
-      go : (b : Bool) → Adds p 1 (st .due) (cond b st (st ▷ owe (Switch (chosen p st) ∷ [])) .due)
-      go true = adds-none p
-      go false = record { new = Switch (chosen p st) ∷ []; joined = refl; few = omega arith; known = λ d m. rw (single m) (known (chosen p st) refl) }
 
 -- at most T + 9 reports are due, and each is allowed
 record DueFits (p : Plan) (due : List Report) : Type 0 where
@@ -231,17 +233,17 @@ module _ (p : Plan) where
   fits-report [] f = f
   fits-report (d ∷ due) f = record { few = omega (arith, f .few); known = λ r m. f .known r (there m) }
 
-  fits-after : (st : State) → SoundState p st → (r : Record) → T (allowed p r) → AllYes (questions p st r) → DueFits p (st .due) → DueFits p (effect p r st .due)
-  fits-after st c (call k) a y f =
-      let m = performed p st c k y in
-      fits-call (idle p st k y) (adds-both p (call-adds p st c a m) (switch-adds p (perform p k st) (performed-sound p st c a m)))
-  fits-after st c (report r) a y f = fits-report (st .due) f
+  fits-after : (st : State) → Invariant p st → (r : Record) → T (allowed p r) → AllYes (questions p st r) → DueFits p (st .due) → DueFits p (effect p r st .due)
+  fits-after st v (call k) a y f =
+      let m = performed p st (v .sound) k y in
+      fits-call (idle p st k y) (adds-both p (call-adds p st v a m) (switch-adds p (perform p k st) (performed-sound p st v a m)))
+  fits-after st v (report r) a y f = fits-report (st .due) f
 
   due-fit : (st : State) → Reached p st → DueFits p (st .due)
   due-fit st begin = record { few = omega arith; known = λ d m. elim m [ ] }
   due-fit st (next {st = before} r b a e) =
       let q = answered p before r st e in
-      subst (λ (s : State). DueFits p (s .due)) (q .1) (fits-after before (reached-invariant p before b .sound) r a (q .0) (due-fit before b))
+      subst (λ (s : State). DueFits p (s .due)) (q .1) (fits-after before (reached-invariant p before b) r a (q .0) (due-fit before b))
 
 -- At most T + 9 reports are ever due.
 pub due-fits : (p : Plan) (st : State) → Reached p st → length (st .due) ≤ threads p + 9

@@ -16,7 +16,7 @@ use Rattle.model.specs.Priorities.{chosen}
 use Rattle.model.specs.Calls.{sleepers, tick}
 use Rattle.model.specs.Words.{switchOf, tickOf}
 use Rattle.model.proofs.Searches.{all-at, all-append}
-use Rattle.model.proofs.Invariant.{SoundState}
+use Rattle.model.proofs.Invariant.{Invariant}
 use Rattle.model.proofs.Agreement.{inside, set-own}
 use Rattle.model.proofs.Performed.{created, delayed, kept, yielded, ended, won, lost, freed, passed, refused, ticked, timed, switchDue, Moved, byCall, byReport, nothing-due}
 use Rattle.model.proofs.Turns as turns
@@ -78,7 +78,7 @@ threadNamed (Late n) = 0
 not-lost : (w t : ℕ) → Won w ≡ Lost t → ⊥
 not-lost w t e = omega (arith, ap reportKind e)
 
-module _ (p : Plan) (st : State) (c : SoundState p st) where
+module _ (p : Plan) (st : State) (v : Invariant p st) where
   -- reports behind, the Switch last
   plainly : (k : Call) (mid : State) (reps : List Report) → T (isTick k) ⊎ (st .due ≡ []) → T (all plain reps) → mid .due ≡ st .due ++ reps → Grows st (call k) (mid ▷ owe (switchDue p mid))
   plainly k mid reps q t e =
@@ -103,7 +103,7 @@ module _ (p : Plan) (st : State) (c : SoundState p st) where
   grows (byCall mid q (kept x e)) = silently Relinquish mid q refl
   grows (byCall mid q (yielded x e)) = plainly Relinquish mid (Yield x ∷ []) q tt refl
   grows (byCall mid q (ended x e f)) = silently End mid q refl
-  grows (byCall mid q (won {s = s} x e need clear fresh)) = decided s (Take s) mid (Won x) [] (inl refl) (nothing-due (Take s) tt q) tt refl (λ w i. ap (condition st) (ap threadNamed i) ∙ caller-ready p st c e)
+  grows (byCall mid q (won {s = s} x e need clear fresh)) = decided s (Take s) mid (Won x) [] (inl refl) (nothing-due (Take s) tt q) tt refl (λ w i. ap (condition st) (ap threadNamed i) ∙ caller-ready p st (v .sound) e)
   grows (byCall mid q (lost {s = s} x e need bar free)) = decided s (Take s) mid (Lost x) [] (inl refl) (nothing-due (Take s) tt q) tt refl (λ w i. absurd (not-lost w x i))
   grows (byCall mid q (freed {s = s} x e l n)) = silently (Give s) mid q refl
   grows (byCall mid q (passed {s = s} x w z e l g i clear)) =
@@ -135,7 +135,7 @@ module _ (p : Plan) (st : State) (c : SoundState p st) where
   won-stays-ready {r} {st'} m h w n = go (grows m)
     where
       old : (k : Call) → r ≡ call k → T (isTick k) ⊎ (st .due ≡ []) → Mem (Won w) (st .due) → condition st' w ≡ ready
-      old k e (inl t) j = tick-leaves-ready k t (subst (λ (x : Record). Turn p st x st' w) e (turn p st c m w)) (h w j)
+      old k e (inl t) j = tick-leaves-ready k t (subst (λ (x : Record). Turn p st x st' w) e (turn p st v m w)) (h w j)
       old k e (inr q) j = elim (rw q at j) [ ]
 
       either : (k : Call) (reps : List Report) → r ≡ call k → T (isTick k) ⊎ (st .due ≡ []) → T (all plain reps) → Mem (Won w) (st .due) ⊎ Mem (Won w) reps → condition st' w ≡ ready

@@ -5,4 +5,5 @@ pub mod RunA
 pub mod TwoLower
 pub mod Wake
 pub mod Timing
+pub mod Waking
 pub mod Unclean

@@ -1,26 +1,29 @@
 -- What the answer 12 leaves: the facts of a well-formed state, from the questions asked of it and back.
 use mathlib.Core.Path.{_≡_, refl, ap, sym, subst, _∙_}
-use mathlib.Core.Bool.{Bool, _&&_}
+use mathlib.Core.Bool.{Bool, not, _&&_, _||_}
 use mathlib.Core.List.{List, [], _∷_, List·Memᴰ as Mem}
 use mathlib.Core.Option.{Option, none, some, Option·none-ne-some, Option·some-injective}
 use Prim.Native.Nat.{ℕ, zero, suc, _+_, _≤_, _<_}
 use native.Mathlib.Omega.{arith}
 use lib.Dec.{T, eqb, leb, ltb, leb→le, le→leb, ltb→lt, lt→ltb, eqb→eq}
 use lib.ListN.{length, getD}
-use Rattle.model.specs.Searches.{all, upTo}
+use Rattle.model.specs.Searches.{all, isEmpty, upTo, same}
 use Rattle.model.specs.Plan.{Plan, threads, validPlan}
 use Rattle.model.specs.Records.{timerCount, Report, report, isThread, allowed}
 use Rattle.model.specs.Timers.{Timer, Arming, noArming, afterArm, afterStart, slot, timerGiven}
 use Rattle.model.specs.State.{Condition, dormant, ready, asleep, waiting, Hold, State, condition}
-use Rattle.model.specs.Formed.{lastTick, lastWake, lastExpiry, conditionInRange, areThreads, holdInRange, numbersInRange, armingInRange, timerInRange, timersInRange, times, heldOnce, inQueue, inWaits, standsOnce, allStandOnce, dueInRange, formed}
-use Rattle.model.proofs.Tests.{and-left, and-right, and-both, eq-test}
+use Rattle.model.specs.Priorities.{chosen}
+use Rattle.model.specs.Formed.{lastTick, lastWake, lastExpiry, conditionInRange, areThreads, holdInRange, numbersInRange, armingInRange, timerInRange, timersInRange, times, heldOnce, inQueue, inWaits, standsOnce, allStandOnce, inDelays, delaysNamed, dueInRange, shownAtRest, formedMachine, formedReports, formed}
+use Rattle.model.proofs.Tests.{and-left, and-right, and-both, eq-test, same-eq, same-refl}
 use Rattle.model.proofs.Searches.{all-at, all-in, Pairwise, Distinct, in-upTo}
 use Rattle.model.proofs.Counting.{counted, found, once-apart, apart-once}
-use Rattle.model.proofs.Invariant.{tag, OtherSection, Agree}
+use Rattle.model.proofs.Invariant.{tag, OtherSection, Agree, Sleeps}
 use Rattle.model.proofs.Agreement.{inside}
+use Rattle.model.proofs.Sleeping.{delayed-below}
 use Rattle.model.proofs.Bounds.{queued-below, waiting-below}
 
-pub record WellFormed (p : Plan) (st : State) : Type 0 where
+-- what is known of the machine, whatever is due
+pub record Standing (p : Plan) (st : State) : Type 0 where
   pub valid : T (validPlan p)
   -- conditions and lists agree, and no thread is listed twice
   pub agree : Agree p (st .conditions) (st .queue) (st .waits)
@@ -34,8 +37,16 @@ pub record WellFormed (p : Plan) (st : State) : Type 0 where
   -- timers are 0 to 7, and expire by the last tick number at which they can
   pub arms : timerGiven (st .timers .arming) < timerCount
   pub expires : (i : ℕ) (t : Timer) → slot (st .timers) i ≡ some t → t .expiry ≤ lastExpiry
+  -- the order of Delays names each sleeper just once and nobody else
+  pub delayed : Sleeps (st .conditions) (st .delays)
+
+-- and of the whole state
+pub record WellFormed (p : Plan) (st : State) : Type 0 where
+  pub standing : Standing p st
   pub few : length (st .due) ≤ threads p + 9
   pub known : (d : Report) → Mem d (st .due) → T (allowed p (report d))
+  -- with nothing due the chosen thread is the last reported
+  pub shown' : st .due ≡ [] → st .reported ≡ chosen p st
 
 -- which condition stands once in the queue, and which in the waits
 
@@ -90,24 +101,26 @@ module _ (p : Plan) (st : State) (sized : length (st .conditions) ≡ threads p)
         stood : (l : List ℕ) (t : ℕ) → 0 < times (λ u. eqb u t) l → Mem t l
         stood l t h = let r = found (λ u. eqb u t) l h in subst (λ (n : ℕ). Mem n l) (eqb→eq (r .0) t (r .2)) (r .1)
 
--- conjunctions of five and of six, taken apart and put together
-module _ (a b c d e : Bool) where
-  five : T (a && b && c && d && e) → T a × T b × T c × T d × T e
-  five t =
-      let t4 = and-left (a && b && c && d) e t in
-      let t3 = and-left (a && b && c) d t4 in
+-- conjunctions of four and of six, taken apart and put together
+module _ (a b c d : Bool) where
+  four : T (a && b && c && d) → T a × T b × T c × T d
+  four t =
+      let t3 = and-left (a && b && c) d t in
       let t2 = and-left (a && b) c t3 in
-      (and-left a b t2, and-right a b t2, and-right (a && b) c t3, and-right (a && b && c) d t4, and-right (a && b && c && d) e t)
+      (and-left a b t2, and-right a b t2, and-right (a && b) c t3, and-right (a && b && c) d t)
 
-  both-five : T a → T b → T c → T d → T e → T (a && b && c && d && e)
-  both-five x y z u v = and-both (a && b && c && d) e (and-both (a && b && c) d (and-both (a && b) c (and-both a b x y) z) u) v
+  both-four : T a → T b → T c → T d → T (a && b && c && d)
+  both-four x y z u = and-both (a && b && c) d (and-both (a && b) c (and-both a b x y) z) u
 
-  module _ (f : Bool) where
+  module _ (e f : Bool) where
     six : T (a && b && c && d && e && f) → T a × T b × T c × T d × T e × T f
-    six t = let r = five (and-left (a && b && c && d && e) f t) in (r .0, r .1, r .2, r .3, r .4, and-right (a && b && c && d && e) f t)
+    six t =
+        let t5 = and-left (a && b && c && d && e) f t in
+        let r = four (and-left (a && b && c && d) e t5) in
+        (r .0, r .1, r .2, r .3, and-right (a && b && c && d) e t5, and-right (a && b && c && d && e) f t)
 
     both-six : T a → T b → T c → T d → T e → T f → T (a && b && c && d && e && f)
-    both-six x y z u v w = and-both (a && b && c && d && e) f (both-five x y z u v) w
+    both-six x y z u v w = and-both (a && b && c && d && e) f (and-both (a && b && c && d) e (both-four x y z u) v) w
 
 -- a thread reported is one of the plan
 is-thread : (p : Plan) (o : Option ℕ) → T (isThread p o) → (t : ℕ) → o ≡ some t → t < threads p
@@ -125,11 +138,45 @@ timer-in [] i t a e = absurd (Option·none-ne-some t e)
 timer-in (o ∷ os) zero t a e = leb→le (t .expiry) lastExpiry (subst (λ (x : Option Timer). T (timerInRange x)) e (and-left (timerInRange o) (all timerInRange os) a))
 timer-in (o ∷ os) (suc i) t a e = timer-in os i t (and-right (timerInRange o) (all timerInRange os) a) e
 
+delays-asleep : (c : Condition) → 0 < inDelays c → (n : ℕ) × (c ≡ asleep n)
+delays-asleep dormant h = absurd (omega arith)
+delays-asleep ready h = absurd (omega arith)
+delays-asleep (asleep n) h = (n, refl)
+delays-asleep (waiting s) h = absurd (omega arith)
+
+most-one-delay : (c : Condition) → inDelays c ≤ 1
+most-one-delay dormant = omega arith
+most-one-delay ready = omega arith
+most-one-delay (asleep n) = omega arith
+most-one-delay (waiting s) = omega arith
+
+-- each sleeper stands just once in the order of Delays
+named : (p : Plan) (st : State) → length (st .conditions) ≡ threads p → T (delaysNamed p st) → Sleeps (st .conditions) (st .delays)
+named p st sized t =
+    record {
+      sleeping = λ u i. delays-asleep (condition st u) (omega (arith, once u (below u i), counted (λ w. eqb w u) (st .delays) i (eq-test u u refl)));
+      inDelays = λ u n e. stood u (omega (arith, once u (omega (arith, sized, inside (st .conditions) u (asleep n) e (omega arith))), ap inDelays e));
+      delaysOnce = once-apart (λ u. u) (st .delays) (λ u i. omega (arith, once u (below u i), most-one-delay (condition st u)));
+    }
+  where
+    inOrder : ℕ → Bool
+    inOrder t = eqb (times (λ u. eqb u t) (st .delays)) (inDelays (condition st t))
+
+    once : (u : ℕ) → u < threads p → times (λ w. eqb w u) (st .delays) ≡ inDelays (condition st u)
+    once u h = eqb→eq _ _ (all-at inOrder (upTo (threads p)) (and-right (areThreads (threads p) (st .delays)) (all inOrder (upTo (threads p))) t) (in-upTo (threads p) u h))
+
+    below : (u : ℕ) → Mem u (st .delays) → u < threads p
+    below u i = ltb→lt u (threads p) (all-at (λ u. ltb u (threads p)) (st .delays) (and-left (areThreads (threads p) (st .delays)) (all inOrder (upTo (threads p))) t) i)
+
+    stood : (u : ℕ) → 0 < times (λ w. eqb w u) (st .delays) → Mem u (st .delays)
+    stood u h = let r = found (λ w. eqb w u) (st .delays) h in subst (λ (n : ℕ). Mem n (st .delays)) (eqb→eq (r .0) u (r .2)) (r .1)
+
 -- the questions, in the order in which they are asked
-pub well-formed : (p : Plan) (st : State) → length (st .conditions) ≡ threads p → T (formed p st) → WellFormed p st
-unfolding formed
-well-formed p st sized t =
-    let q = six (validPlan p) (numbersInRange p st) (timersInRange (st .timers)) (heldOnce (p .sections) (st .holds)) (allStandOnce p st) (dueInRange p (st .due)) t in
+
+pub well-standing : (p : Plan) (st : State) → length (st .conditions) ≡ threads p → T (formedMachine p st) → Standing p st
+unfolding formedMachine
+well-standing p st sized t =
+    let q = six (validPlan p) (numbersInRange p st) (timersInRange (st .timers)) (heldOnce (p .sections) (st .holds)) (allStandOnce p st) (delaysNamed p st) t in
     let n = six (leb (st .tickNumber) lastTick) (isThread p (st .reported)) (all (conditionInRange (p .sections)) (st .conditions)) (areThreads (threads p) (st .queue)) (areThreads (threads p) (st .waits)) (all (holdInRange (threads p) (p .sections)) (st .holds)) (q .1) in
     let held' : ((h : Hold) → Mem h (st .holds) → T (holdInRange (threads p) (p .sections) h)) = λ h i. all-at (holdInRange (threads p) (p .sections)) (st .holds) (n .5) i in
     let section : ((h : Hold) → Mem h (st .holds) → h .section < p .sections) = λ h i. ltb→lt (h .section) (p .sections) (and-left (ltb (h .section) (p .sections)) (ltb (h .thread) (threads p)) (held' h i)) in
@@ -144,8 +191,21 @@ well-formed p st sized t =
       reported' = is-thread p (st .reported) (n .1);
       arms = arming-in (st .timers .arming) (and-left (armingInRange (st .timers .arming)) (all timerInRange (st .timers .slots)) (q .2));
       expires = λ i t e. timer-in (st .timers .slots) i t (and-right (armingInRange (st .timers .arming)) (all timerInRange (st .timers .slots)) (q .2)) e;
-      few = leb→le (length (st .due)) (threads p + 9) (and-left (leb (length (st .due)) (threads p + 9)) (all (λ d. allowed p (report d)) (st .due)) (q .5));
-      known = λ d i. all-at (λ d. allowed p (report d)) (st .due) (and-right (leb (length (st .due)) (threads p + 9)) (all (λ d. allowed p (report d)) (st .due)) (q .5)) i;
+      delayed = named p st sized (q .5);
+    }
+
+pub well-formed : (p : Plan) (st : State) → length (st .conditions) ≡ threads p → T (formed p st) → WellFormed p st
+unfolding formed formedReports
+well-formed p st sized t =
+    let u = and-right (formedMachine p st) (formedReports p st) t in
+    let due = and-left (dueInRange p (st .due)) (shownAtRest p st) u in
+    let few = leb (length (st .due)) (threads p + 9) in
+    let known = all (λ d. allowed p (report d)) (st .due) in
+    record {
+      standing = well-standing p st sized (and-left (formedMachine p st) (formedReports p st) t);
+      few = leb→le (length (st .due)) (threads p + 9) (and-left few known due);
+      known = λ d i. all-at (λ d. allowed p (report d)) (st .due) (and-right few known due) i;
+      shown' = λ e. same-eq (st .reported) (chosen p st) (subst (λ (l : List Report). T (not (isEmpty l) || same (st .reported) (chosen p st))) e (and-right (dueInRange p (st .due)) (shownAtRest p st) u));
     }
 
 -- and back: a state with these facts has the answer Yes to each
@@ -194,7 +254,7 @@ module _ (p : Plan) (st : State) (a : Agree p (st .conditions) (st .queue) (st .
       let c = condition st t in
       and-both (eqb q (inQueue c)) (eqb w (inWaits c)) (eq-test q (inQueue c) (queue-times c refl)) (eq-test w (inWaits c) (waits-times c refl))
 
-numbers : (p : Plan) (st : State) → WellFormed p st → T (numbersInRange p st)
+numbers : (p : Plan) (st : State) → Standing p st → T (numbersInRange p st)
 numbers p st w =
     both-six (leb (st .tickNumber) lastTick) (isThread p (st .reported)) (all (conditionInRange (p .sections)) (st .conditions)) (areThreads (threads p) (st .queue)) (areThreads (threads p) (st .waits)) (all (holdInRange (threads p) (p .sections)) (st .holds))
     (le→leb (st .tickNumber) lastTick (w .tick))
@@ -217,16 +277,44 @@ in-timers (o ∷ os) h = and-both (timerInRange o) (all timerInRange os) (first 
     first none k = tt
     first (some t) k = le→leb (t .expiry) lastExpiry (k t refl)
 
-timers : (p : Plan) (st : State) → WellFormed p st → T (timersInRange (st .timers))
+timers : (p : Plan) (st : State) → Standing p st → T (timersInRange (st .timers))
 timers p st w = and-both (armingInRange (st .timers .arming)) (all timerInRange (st .timers .slots)) (in-arming (st .timers .arming) (w .arms)) (in-timers (st .timers .slots) (w .expires))
 
-pub passes-all : (p : Plan) (st : State) → WellFormed p st → T (formed p st)
-unfolding formed
-passes-all p st w =
-    both-six (validPlan p) (numbersInRange p st) (timersInRange (st .timers)) (heldOnce (p .sections) (st .holds)) (allStandOnce p st) (dueInRange p (st .due))
+module _ (p : Plan) (st : State) (w : Standing p st) where
+  delay-times : (t : ℕ) (c : Condition) → condition st t ≡ c → times (λ u. eqb u t) (st .delays) ≡ inDelays c
+  delay-times t dormant e = none-listed (st .delays) t (λ i. omega (arith, ap tag (sym e ∙ w .delayed .sleeping t i .1)))
+  delay-times t ready e = none-listed (st .delays) t (λ i. omega (arith, ap tag (sym e ∙ w .delayed .sleeping t i .1)))
+  delay-times t (asleep n) e = once-listed (st .delays) t (w .delayed .delaysOnce) (w .delayed .inDelays t n e)
+  delay-times t (waiting s) e = none-listed (st .delays) t (λ i. omega (arith, ap tag (sym e ∙ w .delayed .sleeping t i .1)))
+
+  delays : T (delaysNamed p st)
+  delays =
+      and-both (areThreads (threads p) (st .delays)) (all inOrder (upTo (threads p)))
+      (all-in (λ t. ltb t (threads p)) (st .delays) (λ t i. lt→ltb t (threads p) (omega (arith, w .agree .sized, delayed-below (w .delayed) t i))))
+      (all-in inOrder (upTo (threads p)) (λ t i. eq-test (times (λ u. eqb u t) (st .delays)) (inDelays (condition st t)) (delay-times t (condition st t) refl)))
+    where
+      inOrder : ℕ → Bool
+      inOrder t = eqb (times (λ u. eqb u t) (st .delays)) (inDelays (condition st t))
+
+pub passes-machine : (p : Plan) (st : State) → Standing p st → T (formedMachine p st)
+unfolding formedMachine
+passes-machine p st w =
+    both-six (validPlan p) (numbersInRange p st) (timersInRange (st .timers)) (heldOnce (p .sections) (st .holds)) (allStandOnce p st) (delaysNamed p st)
     (w .valid)
     (numbers p st w)
     (timers p st w)
     (all-in (λ s. leb (times (λ (h : Hold). eqb (h .section) s) (st .holds)) 1) (upTo (p .sections)) (λ s i. le→leb (times (λ (h : Hold). eqb (h .section) s) (st .holds)) 1 (apart-once (λ (h : Hold). h .section) (st .holds) (w .heldOnce') s)))
     (all-in (λ t. standsOnce (st .queue) (st .waits) (condition st t) t) (upTo (threads p)) (λ t i. stands-once p st (w .agree) t))
+    (delays p st w)
+
+pub passes-all : (p : Plan) (st : State) → WellFormed p st → T (formed p st)
+unfolding formed formedReports
+passes-all p st w =
+    and-both (formedMachine p st) (formedReports p st) (passes-machine p st (w .standing))
+    (and-both (dueInRange p (st .due)) (shownAtRest p st)
     (and-both (leb (length (st .due)) (threads p + 9)) (all (λ d. allowed p (report d)) (st .due)) (le→leb (length (st .due)) (threads p + 9) (w .few)) (all-in (λ d. allowed p (report d)) (st .due) (w .known)))
+    (shows (st .due) refl))
+  where
+    shows : (l : List Report) → st .due ≡ l → T (not (isEmpty l) || same (st .reported) (chosen p st))
+    shows [] e = subst (λ (o : Option ℕ). T (same o (chosen p st))) (sym (w .shown' e)) (same-refl (chosen p st))
+    shows (d ∷ l) e = tt

@@ -7,7 +7,7 @@ use lib.Dec.{T, leb, leb→le, ltb→lt}
 use Rattle.model.specs.Plan.{Plan, threads, validPlan}
 use Rattle.model.specs.Records.{Delay, Report, Ready, Switch, Won, Lost, Yield, Expire, Late, Record, call, report, isThread, allowed}
 use Rattle.model.specs.Timers.{Timer, slot}
-use Rattle.model.specs.State.{Condition, dormant, ready, asleep, waiting, State, condition, switchedTo}
+use Rattle.model.specs.State.{Condition, dormant, ready, asleep, waiting, State, condition, switchedTo, latestSwitch}
 use Rattle.model.specs.Words.{switchOf}
 use Rattle.model.specs.Formed.{lastTick, lastExpiry, formed}
 use Rattle.model.proofs.Tests.{and-right}
@@ -36,13 +36,13 @@ short p n r e a = leb→le n 65535 (and-right (leb 1 n) (leb n 65535) (subst (λ
 -- a sleeper's tick number is at most that much ahead
 module _ (p : Plan) (st : State) (v : Invariant p st) {r : Record} {st' : State} (a : T (allowed p r)) (m : Moved p st r st') (t : ℕ) where
   soon-after : until (condition st t) ≤ st .tickNumber + 65536 → until (condition st' t) ≤ st' .tickNumber + 65536
-  soon-after h = go (turn p st (v .sound) m t)
+  soon-after h = go (turn p st v m t)
     where
       go : Turn p st r st' t → until (condition st' t) ≤ st' .tickNumber + 65536
-      go (turns.same i) = omega (arith, ap until i, tick-counts p st (v .sound) m, h)
+      go (turns.same i) = omega (arith, ap until i, tick-counts p st v m, h)
       go (turns.starts q d i) = omega (arith, ap until i)
       go (turns.wakes q d i) = omega (arith, ap until i)
-      go (turns.sleeps n q d i) = omega (arith, ap until i, tick-counts p st (v .sound) m, short p n r q a)
+      go (turns.sleeps n q d i) = omega (arith, ap until i, tick-counts p st v m, short p n r q a)
       go (turns.stops q d i) = omega (arith, ap until i)
       go (turns.loses s rest q d i j) = omega (arith, ap until i)
       go (turns.inherits g s rest q d i j k) = omega (arith, ap until i)
@@ -59,7 +59,7 @@ module _ (p : Plan) where
   named-thread st begin t q = absurd (Option·none-ne-some t q)
   named-thread st (next {st = before} r b a e) t q =
       let v = reached-invariant p before b in
-      go r a (sym (switch-given p before (v .sound) (moves p before (v .sound) r st e)) ∙ q) (λ i. named-thread before b t i)
+      go r a (sym (switch-given p before v (moves p before (v .sound) r st e)) ∙ q) (λ i. named-thread before b t i)
     where
       given : (d : Report) → T (allowed p (report d)) → switchedTo (before .reported) d ≡ some t → (before .reported ≡ some t → t < threads p) → t < threads p
       given (Ready u) k i h = h i
@@ -76,21 +76,27 @@ module _ (p : Plan) where
 
   reached-facts : T (validPlan p) → (st : State) → Reached p st → st .tickNumber ≤ lastTick → WellFormed p st
   reached-facts v st r k =
-      let s = reached-invariant p st r .sound in
+      let v' = reached-invariant p st r in
+      let s = v' .sound in
       let f = timers-fit p st r in
       record {
-        valid = v;
-        agree = s .agree;
-        heldOnce' = s .heldOnce;
-        held = λ h i. (mayTake-below p v (h .thread) (h .section) (s .needed h i), queued-below p (s .agree) (h .thread) (s .holderQueued h i));
-        wants = λ t z e. mayTake-below p v t z (s .wantNeeds t z e);
-        sleeps = λ t n e. omega (arith, soon st r t, ap until e);
-        tick = k;
-        reported' = named-thread st r;
-        arms = f .given;
-        expires = λ i t e. expiry (slot (st .timers) i) t (f .ahead i) e;
+        standing =
+            record {
+              valid = v;
+              agree = s .agree;
+              heldOnce' = s .heldOnce;
+              held = λ h i. (mayTake-below p v (h .thread) (h .section) (s .needed h i), queued-below p (s .agree) (h .thread) (s .holderQueued h i));
+              wants = λ t z e. mayTake-below p v t z (s .wantNeeds t z e);
+              sleeps = λ t n e. omega (arith, soon st r t, ap until e);
+              tick = k;
+              reported' = named-thread st r;
+              arms = f .given;
+              expires = λ i t e. expiry (slot (st .timers) i) t (f .ahead i) e;
+              delayed = v' .sleeps;
+            };
         few = due-fits p st r;
         known = due-named p st r;
+        shown' = λ e. ap (latestSwitch (st .reported)) (sym e) ∙ v' .shown;
       }
     where
       expiry : (o : Option Timer) (t : Timer) → AheadIfArmed (st .tickNumber) o → o ≡ some t → t .expiry ≤ lastExpiry

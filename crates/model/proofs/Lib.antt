@@ -12,6 +12,7 @@ mod Invariant
 mod Nesting
 -- every record keeps it
 mod Agreement
+mod Sleeping
 mod Soundness
 mod Performed
 mod Kept

@@ -11,7 +11,7 @@ use Rattle.model.specs.Searches.{_▷_, filter, isEmpty, same}
 use Rattle.model.specs.Plan.{Plan, base, mayTake}
 use Rattle.model.specs.Records.{Call, Create, Delay, Relinquish, End, Take, Give, Tick, Timing, TimerCall, Report, Ready, Switch, Won, Lost, Yield, Expire, Late, Record, call, report, reportKind, operand, isTick}
 use Rattle.model.specs.Timers.{setTimer, lateDue}
-use Rattle.model.specs.State.{Condition, dormant, ready, asleep, waiting, Hold, State, condition, lastReported, switchedTo, setReported, setDue, becomes, leaveQueue, joinQueue, arrive, joinWaits, leaveWaits, isHold, beginHold, endHold, owe, setTimers}
+use Rattle.model.specs.State.{Condition, dormant, ready, asleep, waiting, Hold, State, condition, lastReported, switchedTo, setReported, setDue, becomes, leaveQueue, joinQueue, arrive, joinWaits, leaveWaits, isHold, beginHold, endHold, owe, joinDelays, setTimers}
 use Rattle.model.specs.Priorities.{heldCeiling, chosen}
 use Rattle.model.specs.Calls.{create, tick, delay, rivalled, relinquish, end, aboveAll, heldByOthers, take, wanted, heir, handOver, give, timing, switch, perform}
 use Rattle.model.specs.Rules.{Question, firstNo, isSomebody, askCaller, isDormant, holdsNone, holdsNot, lastTaken, askFirst, questions, broken}
@@ -37,7 +37,7 @@ given x s hs = filter (λ h. not (isHold s x h)) hs
 -- what a call did, before the Switch
 pub data Performed (p : Plan) (st : State) : Call → State → Type 0 where
   created : {t : ℕ} → condition st t ≡ dormant → Performed p st (Create t) (st ▷ arrive (t ∷ []) ▷ owe (Ready t ∷ []))
-  delayed : {n : ℕ} (x : ℕ) → Caller p st x → HoldsNone (st .holds) x → Performed p st (Delay n) (st ▷ leaveQueue x ▷ becomes (asleep (st .tickNumber + n + 1)) x)
+  delayed : {n : ℕ} (x : ℕ) → Caller p st x → HoldsNone (st .holds) x → Performed p st (Delay n) (st ▷ leaveQueue x ▷ becomes (asleep (st .tickNumber + n + 1)) x ▷ joinDelays x)
   kept : (x : ℕ) → Caller p st x → Performed p st Relinquish st
   yielded : (x : ℕ) → Caller p st x → Performed p st Relinquish (st ▷ leaveQueue x ▷ joinQueue x ▷ owe (Yield x ∷ []))
   ended : (x : ℕ) → Caller p st x → HoldsNone (st .holds) x → Performed p st End (st ▷ leaveQueue x ▷ becomes dormant x)

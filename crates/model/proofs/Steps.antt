@@ -1,4 +1,4 @@
--- What a step tells the crates that walk over records: at the start nobody is chosen, a step counts one Tick at most, a broken rule is 21 to 32.
+-- What a step tells the crates that walk over records: a step counts one Tick at most, a broken rule is 21 to 32.
 use mathlib.Core.Path.{_≡_, refl, ap, _∙_}
 use mathlib.Core.Bool.{Bool, true, false, cond, _&&_}
 use mathlib.Core.List.{List, [], _∷_}
@@ -10,7 +10,6 @@ use Rattle.model.specs.Searches.{all}
 use Rattle.model.specs.Plan.{Plan}
 use Rattle.model.specs.Records.{Arm, Start, Period, Cancel, Create, Delay, Relinquish, End, Take, Give, Tick, Timing, Record, call, report, isTickRecord}
 use Rattle.model.specs.State.{State, start}
-use Rattle.model.specs.Priorities.{chosen}
 use Rattle.model.specs.Rules.{Question, firstNo, questions, broken}
 use Rattle.model.specs.Runs.{effect, moved, broke, outcome, step, run, judge}
 use Rattle.model.specs.Words.{tickOf}
@@ -24,10 +23,6 @@ pub judge-run : (p : Plan) (rs : List Record) → judge p rs ≡ run p 0 rs (sta
 unfolding judge
 judge-run p rs = refl
 
-pub start-nobody : (p : Plan) → chosen p (start p) ≡ none
-unfolding chosen
-start-nobody p = refl
-
 -- one record counts one Tick at most
 tick-of : (r : Record) → tickOf (some r) ≤ 1
 tick-of r = go (isTickRecord r)
@@ -38,8 +33,8 @@ tick-of r = go (isTickRecord r)
 
 pub tick-at-most : (p : Plan) (st : State) → Reached p st → (r : Record) (st' : State) → step p st r ≡ moved st' → st' .tickNumber ≤ suc (st .tickNumber)
 tick-at-most p st b r st' e =
-    let v = reached-invariant p st b .sound in
-    omega (arith, tick-counts p st v (moves p st v r st' e), tick-of r)
+    let v = reached-invariant p st b in
+    omega (arith, tick-counts p st v (moves p st (v .sound) r st' e), tick-of r)
 
 -- the number of the first No is that of a question asked
 number-passes : (f : ℕ → Bool) (qs : List Question) → T (all (λ q. f (q .number)) qs) → (n : ℕ) → firstNo qs ≡ some n → T (f n)

@@ -23,7 +23,7 @@ use Rattle.model.proofs.Belonging.{Written, Moment, write, belongs-firs
 
 module _ (p : Plan) (rs : List Record) (tr : Trace p rs) where
   pub turn-at : (k : ℕ) (h : k < length rs) (t : ℕ) → Turn p (tr .at k) (look rs k h .0) (tr .at (suc k)) t
-  turn-at k h t = let r = look rs k h in turn p (tr .at k) (invariant p rs tr k (omega arith) .sound) (tr .moves k (r .0) (r .1)) t
+  turn-at k h t = let r = look rs k h in turn p (tr .at k) (invariant p rs tr k (omega arith)) (tr .moves k (r .0) (r .1)) t
 
   -- w waits for s after k records, from a lost Take of its own
   pub record WaitedFrom (k w s : ℕ) : Type 0 where

@@ -4,12 +4,11 @@ use mathlib.Core.List.{List, [], _∷_, _++_, map}
 use mathlib.Core.Option.{Option, none, some}
 use Prim.Native.Nat.{ℕ, suc, _+_}
 use lib.Dec.{ltb, eqb}
-use lib.ListN.{length}
-use Rattle.model.specs.Searches.{_▷_, all, any, filter, firstGreatest, upTo, same}
+use Rattle.model.specs.Searches.{_▷_, all, any, filter, firstGreatest, same}
 use Rattle.model.specs.Plan.{Plan, base}
 use Rattle.model.specs.Records.{Call, Create, Delay, Relinquish, End, Take, Give, Tick, Timing, TimerCall, Ready, Switch, Won, Lost, Yield, Expire}
 use Rattle.model.specs.Timers.{setTimer, lateDue, expired, moveOn}
-use Rattle.model.specs.State.{Condition, dormant, ready, asleep, waiting, Hold, State, condition, lastReported, setTickNumber, becomes, leaveQueue, joinQueue, arrive, joinWaits, leaveWaits, beginHold, endHold, owe, setTimers}
+use Rattle.model.specs.State.{Condition, dormant, ready, asleep, waiting, Hold, State, condition, lastReported, setTickNumber, becomes, leaveQueue, joinQueue, arrive, joinWaits, leaveWaits, beginHold, endHold, owe, setDelays, joinDelays, setTimers}
 use Rattle.model.specs.Priorities.{heldCeiling, current, chosen}
 
 -- Create (1), thread: it becomes ready at the line's end. Ready due.
@@ -22,22 +21,26 @@ sleepsUntil n ready = false
 sleepsUntil n (asleep m) = eqb m n
 sleepsUntil n (waiting s) = false
 
--- the sleepers whose tick number this is, lower thread number first
+-- the sleepers whose tick number this is, in the order of their Delay calls
 abbrev pub sleepers : (number : ℕ) → State → List ℕ
-sleepers n st = filter (λ t. sleepsUntil n (condition st t)) (upTo (length (st .conditions)))
+sleepers n st = filter (λ t. sleepsUntil n (condition st t)) (st .delays)
 
--- Tick (7): the tick number grows by one. Sleepers whose tick number this is become ready, lower thread number first. Ready due for each.
+-- those that sleep on
+abbrev pub stillAsleep : (number : ℕ) → State → List ℕ
+stillAsleep n st = filter (λ t. not (sleepsUntil n (condition st t))) (st .delays)
+
+-- Tick (7): the tick number grows by one. Sleepers whose tick number this is become ready, in the order of their Delay calls. Ready due for each.
 -- Expire (21, timer) is due at its tick before any Ready, lower timer first.
 unfoldable pub tick : State → State
 tick st =
     let n = suc (st .tickNumber) in
     let woken = sleepers n st in
-    st ▷ setTickNumber n ▷ setTimers (moveOn n (st .timers)) ▷ arrive woken ▷ owe (map Expire (expired n (st .timers)) ++ map Ready woken)
+    st ▷ setTickNumber n ▷ setTimers (moveOn n (st .timers)) ▷ setDelays (stillAsleep n st) ▷ arrive woken ▷ owe (map Expire (expired n (st .timers)) ++ map Ready woken)
 
 -- Delay (2), n from 1: the caller sleeps until tick number + n + 1. (A tick number and a number of ticks to wait are separate units:
 -- only number plus wait gives a number, here and where a timer expires.)
 unfoldable pub delay : (caller ticks : ℕ) → State → State
-delay x n st = st ▷ leaveQueue x ▷ becomes (asleep (st .tickNumber + n + 1)) x
+delay x n st = st ▷ leaveQueue x ▷ becomes (asleep (st .tickNumber + n + 1)) x ▷ joinDelays x
 
 -- Relinquish (3): if another ready thread has the caller's current priority, the caller goes to the line's end, Yield due; else nothing.
 abbrev pub rivalled : Plan → (caller : ℕ) → State → Bool

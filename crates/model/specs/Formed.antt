@@ -1,15 +1,16 @@
 -- Answer 12: what is asked of a state that came from outside, in the words of document 01. Such a state need not be one that a run reaches.
-use mathlib.Core.Bool.{Bool, true, _&&_}
+use mathlib.Core.Bool.{Bool, true, not, _&&_, _||_}
 use mathlib.Core.List.{List}
 use mathlib.Core.Option.{Option, none, some}
 use Prim.Native.Nat.{ℕ, _+_}
 use lib.Dec.{eqb, leb, ltb}
 use lib.ListN.{length}
-use Rattle.model.specs.Searches.{all, filter, upTo}
+use Rattle.model.specs.Searches.{all, filter, isEmpty, upTo, same}
 use Rattle.model.specs.Plan.{Plan, threads, validPlan}
 use Rattle.model.specs.Records.{timerCount, Report, report, isThread, allowed}
 use Rattle.model.specs.Timers.{Timer, Arming, noArming, afterArm, afterStart, Timers}
 use Rattle.model.specs.State.{Condition, dormant, ready, asleep, waiting, Hold, State, condition}
+use Rattle.model.specs.Priorities.{chosen}
 
 -- the greatest tick number, the greatest that a sleeper waits for, and the greatest at which a timer expires
 abbrev pub lastTick : ℕ
@@ -88,10 +89,33 @@ standsOnce queue waits c t = eqb (times (λ u. eqb u t) queue) (inQueue c) && eq
 abbrev pub allStandOnce : Plan → State → Bool
 allStandOnce p st = all (λ t. standsOnce (st .queue) (st .waits) (condition st t) t) (upTo (threads p))
 
+-- The order of Delays doesn't name each sleeper just once and nobody else.
+
+abbrev pub inDelays : Condition → ℕ
+inDelays dormant = 0
+inDelays ready = 0
+inDelays (asleep n) = 1
+inDelays (waiting s) = 0
+
+abbrev pub delaysNamed : Plan → State → Bool
+delaysNamed p st = areThreads (threads p) (st .delays) && all (λ t. eqb (times (λ u. eqb u t) (st .delays)) (inDelays (condition st t))) (upTo (threads p))
+
 -- A report is not one of this paper's, or more than T + 9 are due.
 abbrev pub dueInRange : Plan → List Report → Bool
 dueInRange p due = leb (length due) (threads p + 9) && all (λ d. allowed p (report d)) due
 
+-- The chosen thread isn't the last reported though nothing is due.
+abbrev pub shownAtRest : Plan → State → Bool
+shownAtRest p st = not (isEmpty (st .due)) || same (st .reported) (chosen p st)
+
+-- the machine, whatever is due
+unfoldable pub formedMachine : Plan → State → Bool
+formedMachine p st = validPlan p && numbersInRange p st && timersInRange (st .timers) && heldOnce (p .sections) (st .holds) && allStandOnce p st && delaysNamed p st
+
+-- what is due
+unfoldable pub formedReports : Plan → State → Bool
+formedReports p st = dueInRange p (st .due) && shownAtRest p st
+
 -- the answer is not 12
 unfoldable pub formed : Plan → State → Bool
-formed p st = validPlan p && numbersInRange p st && timersInRange (st .timers) && heldOnce (p .sections) (st .holds) && allStandOnce p st && dueInRange p (st .due)
+formed p st = formedMachine p st && formedReports p st

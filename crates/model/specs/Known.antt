@@ -1,4 +1,4 @@
--- The known runs P1 to P13 of document 01, each with its verdict.
+-- The known runs P1 to P13 of document 01 and P14 of document 02, item 3, each with its verdict.
 use mathlib.Core.Path.{_≡_, refl}
 use mathlib.Core.Bool.{_&&_}
 use mathlib.Core.List.{List, [], _∷_, _++_, map}
@@ -54,9 +54,12 @@ twoSections = plan 2 (1 ∷ []) (3 ∷ [])
 abbrev oneSection : Plan
 oneSection = plan 1 (1 ∷ []) (1 ∷ [])
 
--- P10: two threads of equal priority
-abbrev pair : Plan
+-- P10 and P14: threads of equal priority
+abbrev pub pair : Plan
 pair = plan 0 (1 ∷ 1 ∷ []) (0 ∷ 0 ∷ [])
+
+abbrev three : Plan
+three = plan 0 (1 ∷ 1 ∷ 1 ∷ []) (0 ∷ 0 ∷ 0 ∷ [])
 
 abbrev p10 : List Record
 p10 = started 0 ++ made (Create 1) (Ready 1 ∷ []) ++ made Relinquish (Yield 0 ∷ Switch (some 1) ∷ [])
@@ -83,9 +86,30 @@ p13 =
     ++ made (Take 0) (Lost 2 ∷ Switch (some 1) ∷ [])
     ++ made (Give 0) (Won 2 ∷ Ready 2 ∷ Switch (some 2) ∷ [])
 
+-- P14: the higher number is delayed first, and both are due at one tick
+abbrev pub p14 : List Record
+p14 =
+    started 1 ++ made (Create 0) (Ready 0 ∷ [])
+    ++ made (Delay 1) (Switch (some 0) ∷ []) ++ made (Delay 1) (Switch none ∷ [])
+    ++ made Tick [] ++ made Tick (Ready 1 ∷ Ready 0 ∷ Switch (some 1) ∷ [])
+
+-- the same with thread 1 delayed at an earlier tick number
+abbrev pub p14-earlier : List Record
+p14-earlier =
+    started 1 ++ made (Create 0) (Ready 0 ∷ [])
+    ++ made (Delay 2) (Switch (some 0) ∷ []) ++ made Tick [] ++ made (Delay 1) (Switch none ∷ [])
+    ++ made Tick [] ++ made Tick (Ready 1 ∷ Ready 0 ∷ Switch (some 1) ∷ [])
+
+-- and with three threads, of which 2 and 0 share a tick
+abbrev pub p14-three : List Record
+p14-three =
+    started 2 ++ made (Create 1) (Ready 1 ∷ []) ++ made (Create 0) (Ready 0 ∷ [])
+    ++ made (Delay 2) (Switch (some 1) ∷ []) ++ made (Delay 1) (Switch (some 0) ∷ []) ++ made (Delay 2) (Switch none ∷ [])
+    ++ made Tick [] ++ made Tick (Ready 1 ∷ Switch (some 1) ∷ []) ++ made Tick (Ready 2 ∷ Ready 0 ∷ [])
+
 -- `P10-cut` is P10 without its last record
 pub data Label : Type 0 where
-  P1 P2 P3 P4 P5 P6 P7 P8 P9 P10 P10-cut P11 P12 P13 : Label
+  P1 P2 P3 P4 P5 P6 P7 P8 P9 P10 P10-cut P11 P12 P13 P14 P14-earlier P14-three : Label
 
 pub record Run : Type 0 where
   pub label : Label
@@ -112,6 +136,9 @@ runs =
     ∷ known P11 (plan 2 (1 ∷ 2 ∷ []) (1 ∷ 3 ∷ [])) p11 (clean 11 0)
     ∷ known P12 lone p12 (clean 264 0)
     ∷ known P13 plan13 p13 (clean 31 0)
+    ∷ known P14 pair p14 (clean 14 0)
+    ∷ known P14-earlier pair p14-earlier (clean 15 0)
+    ∷ known P14-three three p14-three (clean 20 0)
     ∷ []
 
 -- a run's name with a verdict
@@ -125,7 +152,7 @@ stated r = record { label = r .label; verdict = r .verdict }
 abbrev judged : Run → Judged
 judged r = record { label = r .label; verdict = judge (r .of) (r .records) }
 
--- Every known run has the verdict that document 01 gives it.
+-- Every known run has the verdict that the documents give it.
 pub known-runs : map judged runs ≡ map stated runs
 unfolding judge run step broken create tick delay relinquish end takeCall give timing lost armedAt switch chosen current greatestHold bit ceiling
 known-runs = refl

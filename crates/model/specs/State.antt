@@ -32,6 +32,8 @@ pub record State : Type 0 where
   pub holds : List Hold
   -- waiting threads in order of their Take
   pub waits : List ℕ
+  -- sleeping threads in order of their Delay
+  pub delays : List ℕ
   -- the thread named by the latest Switch given, or nobody
   pub reported : Option ℕ
   -- the reports due, in order
@@ -41,7 +43,7 @@ pub record State : Type 0 where
 
 -- At the start all are dormant, the tick number is 0, nobody was reported, nothing is due and no timer is armed.
 abbrev pub start : Plan → State
-start p = record { tickNumber = 0; conditions = replicate (threads p) dormant; queue = []; holds = []; waits = []; reported = none; due = []; timers = noTimers }
+start p = record { tickNumber = 0; conditions = replicate (threads p) dormant; queue = []; holds = []; waits = []; delays = []; reported = none; due = []; timers = noTimers }
 
 abbrev pub condition : State → (thread : ℕ) → Condition
 condition st t = getD (st .conditions) t dormant
@@ -67,28 +69,31 @@ lastReported st = latestSwitch (st .reported) (st .due)
 -- one update for each thing remembered
 
 abbrev pub setTickNumber : ℕ → State → State
-setTickNumber n st = record { tickNumber = n; conditions = st .conditions; queue = st .queue; holds = st .holds; waits = st .waits; reported = st .reported; due = st .due; timers = st .timers }
+setTickNumber n st = record { tickNumber = n; conditions = st .conditions; queue = st .queue; holds = st .holds; waits = st .waits; delays = st .delays; reported = st .reported; due = st .due; timers = st .timers }
 
 abbrev pub setConditions : List Condition → State → State
-setConditions cs st = record { tickNumber = st .tickNumber; conditions = cs; queue = st .queue; holds = st .holds; waits = st .waits; reported = st .reported; due = st .due; timers = st .timers }
+setConditions cs st = record { tickNumber = st .tickNumber; conditions = cs; queue = st .queue; holds = st .holds; waits = st .waits; delays = st .delays; reported = st .reported; due = st .due; timers = st .timers }
 
 abbrev pub setQueue : List ℕ → State → State
-setQueue q st = record { tickNumber = st .tickNumber; conditions = st .conditions; queue = q; holds = st .holds; waits = st .waits; reported = st .reported; due = st .due; timers = st .timers }
+setQueue q st = record { tickNumber = st .tickNumber; conditions = st .conditions; queue = q; holds = st .holds; waits = st .waits; delays = st .delays; reported = st .reported; due = st .due; timers = st .timers }
 
 abbrev pub setHolds : List Hold → State → State
-setHolds hs st = record { tickNumber = st .tickNumber; conditions = st .conditions; queue = st .queue; holds = hs; waits = st .waits; reported = st .reported; due = st .due; timers = st .timers }
+setHolds hs st = record { tickNumber = st .tickNumber; conditions = st .conditions; queue = st .queue; holds = hs; waits = st .waits; delays = st .delays; reported = st .reported; due = st .due; timers = st .timers }
 
 abbrev pub setWaits : List ℕ → State → State
-setWaits ws st = record { tickNumber = st .tickNumber; conditions = st .conditions; queue = st .queue; holds = st .holds; waits = ws; reported = st .reported; due = st .due; timers = st .timers }
+setWaits ws st = record { tickNumber = st .tickNumber; conditions = st .conditions; queue = st .queue; holds = st .holds; waits = ws; delays = st .delays; reported = st .reported; due = st .due; timers = st .timers }
+
+abbrev pub setDelays : List ℕ → State → State
+setDelays ds st = record { tickNumber = st .tickNumber; conditions = st .conditions; queue = st .queue; holds = st .holds; waits = st .waits; delays = ds; reported = st .reported; due = st .due; timers = st .timers }
 
 abbrev pub setReported : Option ℕ → State → State
-setReported w st = record { tickNumber = st .tickNumber; conditions = st .conditions; queue = st .queue; holds = st .holds; waits = st .waits; reported = w; due = st .due; timers = st .timers }
+setReported w st = record { tickNumber = st .tickNumber; conditions = st .conditions; queue = st .queue; holds = st .holds; waits = st .waits; delays = st .delays; reported = w; due = st .due; timers = st .timers }
 
 abbrev pub setDue : List Report → State → State
-setDue ds st = record { tickNumber = st .tickNumber; conditions = st .conditions; queue = st .queue; holds = st .holds; waits = st .waits; reported = st .reported; due = ds; timers = st .timers }
+setDue ds st = record { tickNumber = st .tickNumber; conditions = st .conditions; queue = st .queue; holds = st .holds; waits = st .waits; delays = st .delays; reported = st .reported; due = ds; timers = st .timers }
 
 abbrev pub setTimers : Timers → State → State
-setTimers ts st = record { tickNumber = st .tickNumber; conditions = st .conditions; queue = st .queue; holds = st .holds; waits = st .waits; reported = st .reported; due = st .due; timers = ts }
+setTimers ts st = record { tickNumber = st .tickNumber; conditions = st .conditions; queue = st .queue; holds = st .holds; waits = st .waits; delays = st .delays; reported = st .reported; due = st .due; timers = ts }
 
 -- what the calls are made of
 
@@ -114,6 +119,9 @@ joinWaits t st = st ▷ setWaits (st .waits ++ t ∷ [])
 
 abbrev pub leaveWaits : (thread : ℕ) → State → State
 leaveWaits t st = st ▷ setWaits (without t (st .waits))
+
+abbrev pub joinDelays : (thread : ℕ) → State → State
+joinDelays t st = st ▷ setDelays (st .delays ++ t ∷ [])
 
 abbrev pub hold : (section thread : ℕ) → Hold
 hold s t = record { section = s; thread = t }

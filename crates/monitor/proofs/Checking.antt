@@ -13,15 +13,13 @@ use Rattle.model.specs.Searches.{upTo}
 use Rattle.model.specs.Plan as model
 use Rattle.model.specs.State as state
 use Rattle.model.specs.State.{start}
-use Rattle.model.specs.Priorities.{chosen}
 use Rattle.model.specs.Runs.{clean, breach, run, judge}
-use Rattle.model.proofs.Laws.{Reached, begin, judge-run, start-nobody, clean-count}
+use Rattle.model.proofs.Laws.{Reached, begin, judge-run, clean-count}
 use Rattle.plan.specs.Bytes as bytes
 use Rattle.plan.specs.View as plans
 use Rattle.plan.specs.declared.Plan.{Plan}
 use Rattle.plan.proofs.Laws.{refusal-none-valid}
 use Rattle.machine.specs.declared.state.State.{State}
-use Rattle.machine.specs.Lists.{numbered}
 use Rattle.machine.specs.View.{planOf, view}
 use Rattle.machine.specs.Contracts.{Fresh}
 use Rattle.machine.proofs.Laws.{ceilings-of}
@@ -59,14 +57,13 @@ module _ {plan dump : List ℕ} {p : Plan} (u : Unrefused plan dump p) where
     begins = f .seen ∙ ap (λ (q : Plan). start (plans.view q)) (sym (f .plan'))
 
     -- the walk over the dump may begin
-    pub check-walks : {ceilings : List ℕ} {n : ℕ} → ceilings ≡ map (model.ceiling (plans.view p)) (upTo 16) → n ≡ recordCount dump → Walks s ceilings 255 dump 0 n
+    pub check-walks : {ceilings : List ℕ} {n : ℕ} → ceilings ≡ map (model.ceiling (plans.view p)) (upTo 16) → n ≡ recordCount dump → Walks s ceilings dump 0 n
     check-walks {ceilings} {n} c e =
         let a = accepted (p .threads) (p .sections) false dump (u .dump') in
         let tick : view s .tickNumber ≡ 0 = ap (λ (st : state.State). st .tickNumber) begins in
         record {
           valid = subst (λ (q : model.Plan). T (model.validPlan q)) (sym same-plan) (refusal-none-valid plan (u .plan'));
           ceilings' = ceilings-of (s .machine) p ceilings (f .plan') c;
-          chosen' = ap numbered (sym (ap (chosen (planOf (s .machine))) begins ∙ start-nobody (planOf (s .machine))));
           whole = a .0;
           within = omega (arith, e);
           operands = λ i l h. subst (λ (q : Plan). T (operandFits (q .threads) (q .sections) (kindAt dump i) (operandAt dump i))) (sym (f .plan')) (entry-passes (p .threads) (p .sections) false dump (u .dump') i (omega (arith, e)) .1);

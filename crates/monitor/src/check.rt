@@ -32,7 +32,7 @@ pub fn check(plan: &[u8], dump: &[u8]) -> Verdict
     }
     let all = ceilings(p);
     let n = record_count(dump);
-    let w = walk(State::fresh(p), &all, 255, dump, 0, first_operand(n), n);
+    let w = walk(State::fresh(p), &all, dump, 0, first_operand(n), n);
     if w.rule != 0 {
         return Verdict::Breach(w.at, w.rule);
     }

@@ -15,14 +15,8 @@ use Rattle.model.specs.State as state
 use Rattle.model.specs.Runs.{Outcome, moved, broke, step, Verdict, clean, breach, run}
 use Rattle.model.proofs.Tests.{equal?}
 use Rattle.model.proofs.Laws.{run-ended, run-moved, run-broke}
-use Rattle.model.specs.Priorities.{chosen}
-use Rattle.plan.specs.View as plans
-use Rattle.machine.specs.declared.Machine.{Machine}
 use Rattle.machine.specs.declared.state.State.{State}
-use Rattle.machine.specs.declared.reporting.Reporting.{Reporting}
-use Rattle.machine.specs.Lists.{numbered}
-use Rattle.machine.specs.View.{planOf, view, shown}
-use Rattle.machine.specs.Calls.{Answers, Closes}
+use Rattle.machine.specs.View.{planOf, view}
 use Rattle.machine.proofs.Laws.{formed-facts}
 use Rattle.dump.specs.Layout.{kindAt, operandAt, recordAt, part}
 use Rattle.dump.specs.Questions.{operandFits}
@@ -34,12 +28,11 @@ one-part : (bytes : List ℕ) (i : ℕ) → part bytes i (i + 1) ≡ recordAt by
 one-part bytes i = let z : (i + 1) - i ≡ 1 = omega arith in ap (λ n. map (recordAt bytes) (countFrom i n)) z
 
 -- the record can be walked over
-pub single-walks : {s : State} {ceilings : List ℕ} {who : ℕ} {bytes : List ℕ} {i : ℕ} → Single s ceilings who bytes i → Walks s ceilings who bytes i (i + 1)
+pub single-walks : {s : State} {ceilings : List ℕ} {bytes : List ℕ} {i : ℕ} → Single s ceilings bytes i → Walks s ceilings bytes i (i + 1)
 single-walks {s} {bytes = bytes} {i = i} a =
     record {
-      valid = formed-facts s (a .formed') .valid;
+      valid = formed-facts s (a .formed') .standing .valid;
       ceilings' = a .ceilings';
-      chosen' = a .chosen';
       whole = a .whole;
       within = omega (arith, a .within);
       operands = λ j l h. let z : i ≡ j = omega arith in subst (λ k. T (operandFits (s .machine .plan .threads) (s .machine .plan .sections) (kindAt bytes k) (operandAt bytes k))) z (a .operand');
@@ -104,31 +97,17 @@ module _ {r : Walked} {s : State} (bytes : List ℕ) (i : ℕ) (e : WalkEnds r s
       go (broke m) q = absurd (clean-breach (passes ∙ run-broke p i x [] (view s) m q))
 
   -- what a step of the model answers
-  pub single-answers : Advances (r .state) (r .chosen) (r .rule) s x
-  single-answers = record { outcome = go (equal? (r .rule) 0); plan' = e .plan'; chosen' = e .chosen'; kept = λ d. walk-broke d .1 }
+  pub single-answers : Advances (r .state) (r .rule) s x
+  single-answers = record { outcome = go (equal? (r .rule) 0); plan' = e .plan'; kept = λ d. walk-broke d .1 }
     where
       go : (r .rule ≡ 0) ⊎ (r .rule ≢ 0) → cond (eqb (r .rule) 0) (moved (view (r .state))) (broke (r .rule)) ≡ step p (view s) x
       go (inl z) = rw (eq-eqb (r .rule) 0 z) (sym (walk-moved z))
       go (inr d) = rw (ne-eqb (r .rule) 0 d) (sym (walk-broke d .0))
 
 -- a step moves as the model's does, or answers its rule
-module _ {after : State} {who rule : ℕ} {s : State} {r : Record} (a : Advances after who rule s r) where
+module _ {after : State} {rule : ℕ} {s : State} {r : Record} (a : Advances after rule s r) where
   pub answers-moved : rule ≡ 0 → step (planOf (s .machine)) (view s) r ≡ moved (view after)
   answers-moved e = sym (a .outcome) ∙ ap (λ b. cond b (moved (view after)) (broke rule)) (eq-eqb rule 0 e)
 
   pub answers-broke : rule ≢ 0 → step (planOf (s .machine)) (view s) r ≡ broke rule
   answers-broke d = sym (a .outcome) ∙ ap (λ b. cond b (moved (view after)) (broke rule)) (ne-eqb rule 0 d)
-
--- so does what the machine answers of a record, where it was opened from a state and is closed again
-pub closed-advances : {s : State} {c after : Reporting} {r : Record} → c .machine .plan ≡ s .machine .plan → shown c ≡ view s → Answers after c r → {s' : State} → Closes s' after → Advances s' (after .chosen) (after .rule) s r
-closed-advances {s} {c} {after} {r} q e a {s'} k =
-    record {
-      outcome =
-          ap (λ (st : state.State). cond (eqb (after .rule) 0) (moved st) (broke (after .rule))) (k .seen) ∙ a .outcome
-          ∙ ap (λ (x : Plan). step x (shown c) r) (ap plans.view q) ∙ ap (λ (st : state.State). step (planOf (s .machine)) st r) e;
-      plan' = ap (λ (m : Machine). m .plan) (k .machine') ∙ a .plan' ∙ q;
-      chosen' =
-          a .stands' .chosen' ∙ ap (λ (x : Plan). numbered (chosen x (shown after))) (ap plans.view (a .plan' ∙ q))
-          ∙ ap (λ (st : state.State). numbered (chosen (planOf (s .machine)) st)) (sym (k .seen));
-      kept = λ d. k .seen ∙ a .kept d ∙ e;
-    }

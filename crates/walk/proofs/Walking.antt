@@ -12,7 +12,6 @@ use lib.ListN.{length}
 use Rattle.model.specs.Plan as model
 use Rattle.model.specs.Records as records
 use Rattle.model.specs.State as state
-use Rattle.model.specs.Priorities.{chosen}
 use Rattle.model.specs.Runs.{Outcome, moved, broke, step, Verdict, clean, breach, run}
 use Rattle.model.specs.Formed.{lastTick, formed}
 use Rattle.model.proofs.Laws.{run-ended, run-moved, run-broke, Reached, next, tick-at-most, reached-formed}
@@ -23,7 +22,6 @@ use Rattle.plan.proofs.Laws.{threads-view, valid-fits}
 use Rattle.machine.specs.declared.Machine.{Machine}
 use Rattle.machine.specs.declared.state.State.{State}
 use Rattle.machine.specs.declared.reporting.Reporting.{Reporting}
-use Rattle.machine.specs.Lists.{numbered}
 use Rattle.machine.specs.View.{planOf, view, shown}
 use Rattle.machine.specs.Contracts.{opened}
 use Rattle.machine.specs.Calls.{Stands, Asks, Calls, Sets, Answers, Closes}
@@ -95,33 +93,33 @@ walk-record bytes i o = rw (o .0, o .1)
 
 -- of the state that came, and of that state opened: the same walk
 
-same : {s : State} {who : ℕ} {o : Reporting} → o ≡ opened s who → o .machine .plan ≡ s .machine .plan
+same : {s : State} {o : Reporting} → o ≡ opened s → o .machine .plan ≡ s .machine .plan
 same e = ap (λ (x : Reporting). x .machine .plan) e
 
-module _ (s : State) (who : ℕ) {o : Reporting} (e : o ≡ opened s who) {bytes : List ℕ} {from to : ℕ} {c : Reporting} {i : ℕ} where
+module _ (s : State) {o : Reporting} (e : o ≡ opened s) {bytes : List ℕ} {from to : ℕ} {c : Reporting} {i : ℕ} where
   pub as-came : Walking (o .machine .plan) (shown o) bytes from to c i → Walking (s .machine .plan) (view s) bytes from to c i
-  as-came w = subst (λ (st : state.State). Walking (s .machine .plan) st bytes from to c i) (ap shown e ∙ opened-shown s who) (subst (λ (p : Plan). Walking p (shown o) bytes from to c i) (same e) w)
+  as-came w = subst (λ (st : state.State). Walking (s .machine .plan) st bytes from to c i) (ap shown e ∙ opened-shown s) (subst (λ (p : Plan). Walking p (shown o) bytes from to c i) (same e) w)
 
   pub as-opened : Walking (s .machine .plan) (view s) bytes from to c i → Walking (o .machine .plan) (shown o) bytes from to c i
-  as-opened w = subst (λ (p : Plan). Walking p (shown o) bytes from to c i) (sym (same e)) (subst (λ (st : state.State). Walking (s .machine .plan) st bytes from to c i) (sym (ap shown e ∙ opened-shown s who)) w)
+  as-opened w = subst (λ (p : Plan). Walking p (shown o) bytes from to c i) (sym (same e)) (subst (λ (st : state.State). Walking (s .machine .plan) st bytes from to c i) (sym (ap shown e ∙ opened-shown s)) w)
 
-module _ {first : State} {ceilings : List ℕ} {who : ℕ} {bytes : List ℕ} {from to : ℕ} (a : Walks first ceilings who bytes from to) where
-  pub walk-begins : {c : Reporting} → c ≡ opened first who → Walking (first .machine .plan) (view first) bytes from to c from
+module _ {first : State} {ceilings : List ℕ} {bytes : List ℕ} {from to : ℕ} (a : Walks first ceilings bytes from to) where
+  pub walk-begins : {c : Reporting} → c ≡ opened first → Walking (first .machine .plan) (view first) bytes from to c from
   walk-begins e = subst (λ (c : Reporting). Walking (first .machine .plan) (view first) bytes from to c from) (sym e)
       (record {
         plan' = refl;
-        leads = ap (finish (planOf (first .machine)) from (part bytes from to)) (opened-shown first who);
-        stands = opened-stands first who (a .chosen');
+        leads = ap (finish (planOf (first .machine)) from (part bytes from to)) (opened-shown first);
+        stands = opened-stands first;
         onward' = omega arith;
-        kept = λ z. opened-shown first who;
+        kept = λ z. opened-shown first;
         safe = go (a .safe);
       })
     where
       p : model.Plan
       p = planOf (first .machine)
 
-      go : Runs p (view first) (to - from) ⊎ Lent p (view first) bytes from to → Runs p (shown (opened first who)) (to - from) ⊎ Lent p (view first) bytes from to
-      go (inl r) = inl (subst (λ (st : state.State). Runs p st (to - from)) (sym (opened-shown first who)) r)
+      go : Runs p (view first) (to - from) ⊎ Lent p (view first) bytes from to → Runs p (shown (opened first)) (to - from) ⊎ Lent p (view first) bytes from to
+      go (inl r) = inl (subst (λ (st : state.State). Runs p st (to - from)) (sym (opened-shown first)) r)
       go (inr l) = inr l
 
   module _ {c : Reporting} {i : ℕ} (w : Walking (first .machine .plan) (view first) bytes from to c i) where
@@ -129,21 +127,20 @@ module _ {first : State} {ceilings : List ℕ} {who : ℕ} {bytes : List ℕ} {f
     same-plan = ap plans.view (w .plan')
 
     -- where the walk ends, with its verdict: here, or at the record that breaks a rule
-    ended : {after : Reporting} {s : State} {at : ℕ} → after .machine .plan ≡ first .machine .plan → Stands after → Closes s after
+    ended : {after : Reporting} {s : State} {at : ℕ} → after .machine .plan ≡ first .machine .plan → Closes s after
         → (cond (eqb (after .rule) 0) (clean at (length (shown after .due))) (breach at (after .rule)), shown after) ≡ finish (planOf (first .machine)) from (part bytes from to) (view first)
-        → WalkEnds (record { state = s; chosen = after .chosen; at = at; rule = after .rule }) first bytes from to
-    ended {after} {s} {at} q st k z =
+        → WalkEnds (record { state = s; at = at; rule = after .rule }) first bytes from to
+    ended {after} {s} {at} q k z =
         record {
           plan' = ap (λ (m : Machine). m .plan) (k .machine') ∙ q;
           verdict = ap (λ (x : state.State). cond (eqb (after .rule) 0) (clean at (length (x .due))) (breach at (after .rule))) (k .seen) ∙ ap (λ f. f .0) z;
           state' = k .seen ∙ ap (λ f. f .1) z;
-          chosen' = st .chosen' ∙ ap (λ (x : model.Plan). numbered (chosen x (shown after))) (ap plans.view q) ∙ ap (λ (x : state.State). numbered (chosen (planOf (first .machine)) x)) (sym (k .seen));
         }
 
     -- behind the last record
-    pub walk-ends : c .rule ≡ 0 → to ≤ i → {s : State} → Closes s c → WalkEnds (record { state = s; chosen = c .chosen; at = i; rule = c .rule }) first bytes from to
+    pub walk-ends : c .rule ≡ 0 → to ≤ i → {s : State} → Closes s c → WalkEnds (record { state = s; at = i; rule = c .rule }) first bytes from to
     walk-ends e h k =
-        ended (w .plan') (w .stands) k
+        ended (w .plan') k
         (ap (λ b. (cond b (clean i (length (shown c .due))) (breach i (c .rule)), shown c)) (eq-eqb (c .rule) 0 e)
         ∙ sym (finish-ended (planOf (c .machine)) i (shown c))
         ∙ sym (done (λ l. finish (planOf (c .machine)) i (map (recordAt bytes) l) (shown c)) to i h)
@@ -207,9 +204,9 @@ module _ {first : State} {ceilings : List ℕ} {who : ℕ} {bytes : List ℕ} {f
         turned = sym (turn (λ l. finish (planOf (c .machine)) i (map (recordAt bytes) l) (shown c)) to i h) ∙ w .leads
 
         -- the record breaks a rule
-        pub walk-breaks : after .rule ≢ 0 → {s : State} → Closes s after → WalkEnds (record { state = s; chosen = after .chosen; at = i; rule = after .rule }) first bytes from to
+        pub walk-breaks : after .rule ≢ 0 → {s : State} → Closes s after → WalkEnds (record { state = s; at = i; rule = after .rule }) first bytes from to
         walk-breaks d k =
-            ended (b .plan' ∙ w .plan') (b .stands') k
+            ended (b .plan' ∙ w .plan') k
             (ap (λ x. (cond x (clean i (length (shown after .due))) (breach i (after .rule)), shown after)) (ne-eqb (after .rule) 0 d)
             ∙ ap (λ (st : state.State). (breach i (after .rule), st)) (b .kept d)
             ∙ sym (finish-broke (planOf (c .machine)) i (recordAt bytes i) (map (recordAt bytes) (left (i + 1) to)) (shown c) (after .rule) (answers-broke b d)) ∙ turned)

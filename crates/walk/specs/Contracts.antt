@@ -9,12 +9,10 @@ use lib.ListN.{length}
 use Rattle.model.specs.Plan as model
 use Rattle.model.specs.Records as records
 use Rattle.model.specs.State as state
-use Rattle.model.specs.Priorities.{chosen}
 use Rattle.model.specs.Runs.{clean, breach, moved, broke, step, run}
 use Rattle.model.specs.Formed.{lastTick, formed}
 use Rattle.model.proofs.Laws.{Reached}
 use Rattle.machine.specs.declared.state.State.{State}
-use Rattle.machine.specs.Lists.{numbered}
 use Rattle.machine.specs.View.{planOf, view}
 use Rattle.machine.specs.Contracts.{Ceilings}
 use Rattle.dump.specs.Layout.{recordCount, kindAt, operandAt, part}
@@ -37,11 +35,10 @@ pub record Lent (p : model.Plan) (st : state.State) (bytes : List ℕ) (from to 
   pub formed' : T (formed p st)
   pub room : kindAt bytes from ≡ 7 → st .tickNumber < lastTick
 
--- what a walk asks: a valid plan with its ceilings, the chosen thread, records that questions 5 to 8 let pass
-pub record Walks (s : State) (ceilings : List ℕ) (who : ℕ) (bytes : List ℕ) (from to : ℕ) : Type 0 where
+-- what a walk asks: a valid plan with its ceilings, records that questions 5 to 8 let pass
+pub record Walks (s : State) (ceilings : List ℕ) (bytes : List ℕ) (from to : ℕ) : Type 0 where
   pub valid : T (model.validPlan (planOf (s .machine)))
   pub ceilings' : Ceilings (s .machine) ceilings
-  pub chosen' : who ≡ numbered (chosen (planOf (s .machine)) (view s))
   pub whole : Whole bytes
   pub within : to ≤ recordCount bytes
   pub operands : (i : ℕ) → from ≤ i → i < to → T (operandFits (s .machine .plan .threads) (s .machine .plan .sections) (kindAt bytes i) (operandAt bytes i))
@@ -52,23 +49,18 @@ pub record WalkEnds (r : Walked) (s : State) (bytes : List ℕ) (from to : ℕ) 
   pub plan' : r .state .machine .plan ≡ s .machine .plan
   pub verdict : cond (eqb (r .rule) 0) (clean (r .at) (length (view (r .state) .due))) (breach (r .at) (r .rule)) ≡ run (planOf (s .machine)) from (part bytes from to) (view s)
   pub state' : view (r .state) ≡ ends (planOf (s .machine)) (part bytes from to) (view s)
-  pub chosen' : r .chosen ≡ numbered (chosen (planOf (s .machine)) (view (r .state)))
 
--- what one record asks: that questions 5 to 8 let it pass, a well-formed state with its ceilings and its chosen thread, and for a Tick room for the
--- tick number to grow
-pub record Single (s : State) (ceilings : List ℕ) (who : ℕ) (bytes : List ℕ) (i : ℕ) : Type 0 where
+-- what one record asks: that questions 5 to 8 let it pass, a well-formed state with its ceilings, and for a Tick room for the tick number to grow
+pub record Single (s : State) (ceilings : List ℕ) (bytes : List ℕ) (i : ℕ) : Type 0 where
   pub formed' : T (formed (planOf (s .machine)) (view s))
   pub ceilings' : Ceilings (s .machine) ceilings
-  pub chosen' : who ≡ numbered (chosen (planOf (s .machine)) (view s))
   pub whole : Whole bytes
   pub within : i < recordCount bytes
   pub operand' : T (operandFits (s .machine .plan .threads) (s .machine .plan .sections) (kindAt bytes i) (operandAt bytes i))
   pub room : kindAt bytes i ≡ 7 → view s .tickNumber < lastTick
 
--- What a step answers of a record: the state after it with its chosen thread, and the broken rule, 0 if there is none. A broken rule leaves
--- the state as it came.
-pub record Advances (after : State) (who rule : ℕ) (s : State) (r : records.Record) : Type 0 where
+-- What a step answers of a record: the state after it, and the broken rule, 0 if there is none. A broken rule leaves the state as it came.
+pub record Advances (after : State) (rule : ℕ) (s : State) (r : records.Record) : Type 0 where
   pub outcome : cond (eqb rule 0) (moved (view after)) (broke rule) ≡ step (planOf (s .machine)) (view s) r
   pub plan' : after .machine .plan ≡ s .machine .plan
-  pub chosen' : who ≡ numbered (chosen (planOf (s .machine)) (view after))
   pub kept : (rule ≡ 0 → ⊥) → view after ≡ view s

@@ -5,31 +5,21 @@ ghost use Rattle.walk.specs.Contracts.{Single, Advances};
 use crate::walk::walk;
 use machine::state::State;
 
-// The state after a record with its chosen thread, and the broken rule, 0 if there is none.
+// The state after a record, and the broken rule, 0 if there is none.
 pub struct Stepped {
     pub state: State,
-    pub chosen: u8,
     pub rule: u8,
 }
 
-// What record i of a dump or call list, with its running place, does to the state, or the rule that it breaks: see model, Runs.step. The chosen
-// thread comes and goes beside the state, so that it is found once for each call.
-pub fn step(
-    state: State,
-    ceilings: &[u8; 16],
-    chosen: u8,
-    bytes: &[u8],
-    i: usize,
-    running: usize,
-) -> Stepped
-    requires { ⌜ Single state (now ceilings) chosen (now bytes) i × (running ≡ runningPlace (recordCount (now bytes)) i) ⌝ }
-    ensures { λ r. ⌜ Advances (r .state) (r .chosen) (r .rule) state (recordAt (now (bytes .entry)) i) ⌝ }
+// What record i of a dump or call list, with its running place, does to the state, or the rule that it breaks: see model, Runs.step.
+pub fn step(state: State, ceilings: &[u8; 16], bytes: &[u8], i: usize, running: usize) -> Stepped
+    requires { ⌜ Single state (now ceilings) (now bytes) i × (running ≡ runningPlace (recordCount (now bytes)) i) ⌝ }
+    ensures { λ r. ⌜ Advances (r .state) (r .rule) state (recordAt (now (bytes .entry)) i) ⌝ }
 {
-    let w = walk(state, ceilings, chosen, bytes, i, running, i + 1);
+    let w = walk(state, ceilings, bytes, i, running, i + 1);
     let after = w.state;
     Stepped {
         state: after,
-        chosen: w.chosen,
         rule: w.rule,
     }
 }

@@ -8,11 +8,9 @@ use dump::records::record_of;
 use machine::record::Record;
 use machine::state::State;
 
-// Where a walk ended: the state with its chosen thread, the number of the record behind those that moved it, and the rule that this one breaks,
-// 0 if there is none.
+// Where a walk ended: the state, the number of the record behind those that moved it, and the rule that this one breaks, 0 if there is none.
 pub struct Walked {
     pub state: State,
-    pub chosen: u8,
     pub at: usize,
     pub rule: u8,
 }
@@ -22,16 +20,15 @@ pub struct Walked {
 pub fn walk(
     s: State,
     ceilings: &[u8; 16],
-    who: u8,
     bytes: &[u8],
     from: usize,
     place: usize,
     to: usize,
 ) -> Walked
-    requires { ⌜ Walks s (now ceilings) who (now bytes) from to × (place ≡ runningPlace (recordCount (now bytes)) from) ⌝ }
+    requires { ⌜ Walks s (now ceilings) (now bytes) from to × (place ≡ runningPlace (recordCount (now bytes)) from) ⌝ }
     ensures { λ r. ⌜ WalkEnds r s (now (bytes .entry)) from to ⌝ }
 {
-    let mut c = s.opened(who);
+    let mut c = s.opened();
     let mut i: usize = from;
     let mut running: usize = place;
     while i < to {
@@ -64,7 +61,6 @@ pub fn walk(
     }
     Walked {
         state: c.closed(),
-        chosen: c.chosen,
         at: i,
         rule: c.rule,
     }

@@ -3,7 +3,7 @@
 
 /// The number of this interface. It rises whenever the layout of [`Watch`](crate::Watch) or the signature of a function of the library moves;
 /// [`abi`](crate::abi) asks the library for its own.
-pub const ABI: u32 = 2;
+pub const ABI: u32 = 3;
 
 /// The operand of a Switch to nobody, in a record and in a report of a watch state. In [`Machine::reported`](crate::Machine::reported), a
 /// byte, 255 stands for nobody.
@@ -32,7 +32,7 @@ pub mod kind {
     pub const TAKE: u8 = 5;
     /// Section below S: the hold ends, and may pass to a waiting thread.
     pub const GIVE: u8 = 6;
-    /// 0: the tick number grows by one, timers expire and sleepers wake.
+    /// 0: the tick number grows by one, timers expire and sleepers wake in the order of their Delays.
     pub const TICK: u8 = 7;
     /// Timer below [`TIMERS`](super::TIMERS): the one to arm, also one that is armed; Start and then Period follow at once.
     pub const ARM: u8 = 8;

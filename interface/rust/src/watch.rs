@@ -110,6 +110,8 @@ pub struct Machine {
     pub holds: Holds,
     /// The waiting threads in order of their Take.
     pub waits: Queue,
+    /// The order of Delays: the sleeping threads in order of their Delay.
+    pub delays: Queue,
     /// The thread of the latest Switch given, 255 for nobody.
     pub reported: u8,
     /// The timers.
@@ -158,6 +160,7 @@ pub(crate) fn blank() -> Watch {
             count: 0,
         },
         waits: queue,
+        delays: queue,
         reported: 0,
         timers: Timers {
             expiries: [0; TIMERS],

@@ -1,4 +1,4 @@
-//! The functions on the known runs and those of the timers, on what they refuse, and on any bytes.
+//! The functions on the known runs and those of sleepers and timers, on what they refuse, and on any bytes.
 mod known;
 
 use beltcairn::kind::{
@@ -6,14 +6,14 @@ use beltcairn::kind::{
 };
 use beltcairn::{bench, check, Reply, Verdict, Watch, Written};
 use known::timers::run_of_timers;
-use known::{bytes, known, run_a, timers, Run, PLAN_A};
+use known::{bytes, known, run_a, sleepers, timers, Run, PLAN_A};
 
 const KINDS: [u8; 18] = [
     CREATE, DELAY, RELINQUISH, END, TAKE, GIVE, TICK, ARM, START, PERIOD, CANCEL, READY, SWITCH, WON, LOST, YIELD, EXPIRE, LATE,
 ];
 
 fn all_runs() -> impl Iterator<Item = Run> {
-    known().into_iter().chain(timers::runs())
+    known().into_iter().chain(sleepers::runs()).chain(timers::runs())
 }
 
 /// The verdict of live steps, one for each record until one breaks a rule.
@@ -35,7 +35,7 @@ fn step_by_step(plan: &[u8], records: &[(u8, u16)]) -> Verdict {
 
 #[test]
 fn known_runs_whole_and_step_by_step() {
-    assert_eq!(known().len(), 14);
+    assert_eq!(known().len(), 15);
     for run in all_runs() {
         assert_eq!(check(&run.plan, &bytes(&run.records)), run.verdict, "{}", run.name);
         assert_eq!(step_by_step(&run.plan, &run.records), run.verdict, "{}", run.name);

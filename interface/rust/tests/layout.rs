@@ -6,6 +6,7 @@ use beltcairn::packed::{numbers, word};
 use beltcairn::{
     abi, breach, refused, Arming, Holds, Machine, Plan, Queue, Reply, Report, Reports, Slots, State, Timers, Watch, ABI, NOBODY,
 };
+use known::states::{is_refused, largest, listed, made, owed, steps};
 use known::{run_a, PLAN_A};
 use std::mem::{align_of, offset_of, size_of};
 
@@ -17,7 +18,7 @@ fn one_interface() {
 
 #[test]
 fn sizes() {
-    assert_eq!(ABI, 2); // where a number below moves, this one rises
+    assert_eq!(ABI, 3); // where a number below moves, this one rises
     let parts = [size_of::<Plan>(), size_of::<Slots>(), size_of::<Queue>(), size_of::<Holds>()];
     assert_eq!(parts, [64, 16, 16, 24]);
     let wholes = [
@@ -29,12 +30,12 @@ fn sizes() {
         size_of::<State>(),
         size_of::<Watch>(),
     ];
-    assert_eq!(wholes, [4, 112, 4, 52, 264, 384, 392]);
+    assert_eq!(wholes, [4, 112, 4, 52, 280, 400, 408]);
 }
 
 #[test]
 fn alignments() {
-    assert_eq!(ABI, 2); // where a number below moves, this one rises
+    assert_eq!(ABI, 3); // where a number below moves, this one rises
     let eight = [
         align_of::<Plan>(),
         align_of::<Slots>(),
@@ -50,7 +51,7 @@ fn alignments() {
 
 #[test]
 fn offsets() {
-    assert_eq!(ABI, 2); // where a number below moves, this one rises
+    assert_eq!(ABI, 3); // where a number below moves, this one rises
     assert_eq!(
         [
             offset_of!(Plan, threads),
@@ -74,17 +75,24 @@ fn offsets() {
         [offset_of!(Machine, queue), offset_of!(Machine, holds), offset_of!(Machine, waits)],
         [152, 168, 192]
     );
-    assert_eq!([offset_of!(Machine, reported), offset_of!(Machine, timers)], [208, 212]);
+    assert_eq!(
+        [
+            offset_of!(Machine, delays),
+            offset_of!(Machine, reported),
+            offset_of!(Machine, timers)
+        ],
+        [208, 224, 228]
+    );
     assert_eq!(
         [offset_of!(State, machine), offset_of!(State, due), offset_of!(State, given)],
-        [0, 264, 376]
+        [0, 280, 392]
     );
-    assert_eq!([offset_of!(Watch, state), offset_of!(Watch, rule)], [0, 384]);
+    assert_eq!([offset_of!(Watch, state), offset_of!(Watch, rule)], [0, 400]);
 }
 
 #[test]
 fn offsets_of_the_timers() {
-    assert_eq!(ABI, 2); // where a number below moves, this one rises
+    assert_eq!(ABI, 3); // where a number below moves, this one rises
     assert_eq!(
         [offset_of!(Arming, stage), offset_of!(Arming, timer), offset_of!(Arming, start)],
         [0, 1, 2]
@@ -106,18 +114,10 @@ fn the_first_number_of_a_word_is_the_lowest() {
     assert_eq!(word([0xf1; 16]), 0x1111_1111_1111_1111);
 }
 
-fn listed(queue: &Queue) -> Vec<u8> {
-    numbers(queue.items)[..queue.count].to_vec()
-}
-
 /// Section and thread of each hold, the latest first.
 fn held(holds: &Holds) -> Vec<(u8, u8)> {
     let pairs = numbers(holds.sections).into_iter().zip(numbers(holds.threads));
     pairs.take(holds.count).collect()
-}
-
-fn owed(state: &State) -> Vec<(u8, u16)> {
-    state.owed().iter().map(|report| (report.kind, report.operand)).collect()
 }
 
 /// The condition of each thread, with the tick number or section that belongs to it and 0 where there is none.
@@ -131,20 +131,6 @@ fn conditions(m: &Machine) -> Vec<(u8, u32)> {
     (0..m.plan.threads).map(|thread| (states[thread], value(thread))).collect()
 }
 
-fn steps(watch: &mut Watch, records: &[(u8, u16)]) {
-    for (kind, operand) in records {
-        assert!(matches!(watch.step(*kind, *operand), Reply::Clean(_)), "{kind} {operand}");
-    }
-}
-
-/// 16 threads and 16 sections: thread i has priority i + 1 and needs section i.
-fn largest() -> Watch {
-    let mut plan = vec![16, 16];
-    plan.extend(1..=16);
-    plan.extend((0..16).flat_map(|i| (1u16 << i).to_le_bytes()));
-    Watch::begin(&plan).unwrap()
-}
-
 #[test]
 fn largest_plan() {
     let watch = largest();
@@ -154,7 +140,8 @@ fn largest_plan() {
     assert_eq!(m.plan.needs[..9], [1, 2, 4, 8, 16, 32, 64, 128, 256]);
     assert_eq!(m.plan.needs[9..], [512, 1024, 2048, 4096, 8192, 16384, 32768]);
     assert_eq!(conditions(m), [(0, 0); 16]);
-    assert_eq!((m.tick, m.queue.count, m.holds.count, m.waits.count, m.reported), (0, 0, 0, 0, 255));
+    assert_eq!([m.queue.count, m.holds.count, m.waits.count, m.delays.count], [0; 4]);
+    assert_eq!((m.tick, m.reported), (0, 255));
     assert_eq!((watch.state.due.count, watch.state.given, watch.rule), (0, 0, 0));
 }
 
@@ -233,24 +220,11 @@ fn states_of_one_thread() {
         (conditions(&watch.state.machine), owed(&watch.state)),
         (vec![(2, 301)], vec![(SWITCH, NOBODY)])
     );
+    assert_eq!(listed(&watch.state.machine.delays), [0]);
     steps(&mut watch, &[(SWITCH, NOBODY), (TICK, 0)]);
     assert_eq!((watch.state.machine.tick, watch.state.machine.reported, watch.rule), (1, 255, 0));
     assert_eq!(watch.step(READY, 0), Reply::Broken(breach::NONE_DUE));
     assert_eq!((watch.state.machine.tick, watch.rule), (1, breach::NONE_DUE));
-}
-
-/// A state made here: thread 0 runs and holds the section that thread 2 waits for, thread 1 sleeps until tick number 9, and it is 7.
-fn made() -> Watch {
-    let mut watch = Watch::begin(&PLAN_A).unwrap();
-    let m = &mut watch.state.machine;
-    m.tick = 7;
-    (m.slots.states, m.slots.wants) = (0x321, 0x000);
-    m.wakes[1] = 9;
-    (m.queue.items, m.queue.count) = (0, 1);
-    (m.holds.sections, m.holds.threads, m.holds.count) = (0, 0, 1);
-    (m.waits.items, m.waits.count) = (2, 1);
-    m.reported = 0;
-    watch
 }
 
 /// `made` with this number in every entry of a word that is not in use, and this tick number with every thread that is not asleep.
@@ -260,9 +234,11 @@ fn made_with_unused(number: u8, tick: u32) -> Watch {
     let filled = word([number; 16]);
     m.slots.states |= filled << 12;
     m.slots.wants |= filled << 12 | (filled & 0xff); // but for thread 2, which waits
-    for list in [&mut m.queue.items, &mut m.holds.sections, &mut m.holds.threads, &mut m.waits.items] {
+    for list in [&mut m.queue.items, &mut m.waits.items, &mut m.delays.items] {
         *list |= filled << 4;
     }
+    m.holds.sections |= filled << 4;
+    m.holds.threads |= filled << 4;
     m.wakes = [tick; 16];
     m.wakes[1] = 9;
     watch
@@ -272,8 +248,10 @@ fn made_with_unused(number: u8, tick: u32) -> Watch {
 fn goes_on_cleanly(mut watch: Watch) {
     assert_eq!(watch.step(TICK, 0), Reply::Clean(0));
     assert_eq!(conditions(&watch.state.machine), [(1, 0), (2, 9), (3, 0)]);
+    assert_eq!(listed(&watch.state.machine.delays), [1]);
     assert_eq!(watch.step(TICK, 0), Reply::Clean(1));
     assert_eq!((watch.state.machine.tick, owed(&watch.state)), (9, vec![(READY, 1)]));
+    assert_eq!(listed(&watch.state.machine.delays), []);
     assert_eq!(watch.step(READY, 1), Reply::Clean(0));
     assert_eq!(watch.step(GIVE, 0), Reply::Clean(3));
     let m = &watch.state.machine;
@@ -289,12 +267,6 @@ fn clean_lent_states() {
             goes_on_cleanly(made_with_unused(number, tick));
         }
     }
-}
-
-fn is_refused(mut watch: Watch, question: u8, kind: u8, operand: u16) {
-    let before = watch;
-    assert_eq!(watch.step(kind, operand), Reply::Refused(question));
-    assert_eq!(watch, before);
 }
 
 /// The parts of 12, each of a state that differs from `made` in that alone; 12 is asked before 7.

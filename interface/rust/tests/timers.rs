@@ -3,13 +3,8 @@ mod known;
 
 use beltcairn::kind::{ARM, CANCEL, CREATE, DELAY, EXPIRE, LATE, PERIOD, READY, START, SWITCH, TICK};
 use beltcairn::{breach, refused, Armed, Arming, Begun, Reply, Report, Timers, Watch, NOBODY, ROOM, TIMERS};
+use known::states::{is_refused, steps};
 use known::timers::armed;
-
-fn steps(watch: &mut Watch, records: &[(u8, u16)]) {
-    for (kind, operand) in records {
-        assert!(matches!(watch.step(*kind, *operand), Reply::Clean(_)), "{kind} {operand}");
-    }
-}
 
 fn timers(watch: &mut Watch) -> &mut Timers {
     &mut watch.state.machine.timers
@@ -163,12 +158,6 @@ fn lent_armings() {
     assert_eq!(other.step(START, 1), Reply::Broken(breach::REPORT_DUE));
 }
 
-fn is_refused(mut watch: Watch) {
-    let before = watch;
-    assert_eq!(watch.step(TICK, 0), Reply::Refused(refused::STATE));
-    assert_eq!(watch, before);
-}
-
 #[test]
 fn ill_formed_states() {
     let changes: [fn(&mut Watch); 5] = [
@@ -181,13 +170,13 @@ fn ill_formed_states() {
     for change in changes {
         let mut watch = running_at(7);
         change(&mut watch);
-        is_refused(watch);
+        is_refused(watch, refused::STATE, TICK, 0);
     }
     for (kind, operand) in [(15, 0), (23, 0), (READY, 1), (SWITCH, 255), (EXPIRE, 8), (EXPIRE, NOBODY)] {
         let mut watch = running_at(7);
         watch.state.due.items[0] = Report { kind, operand };
         (watch.state.due.count, watch.state.given) = (1, 0);
-        is_refused(watch);
+        is_refused(watch, refused::STATE, TICK, 0);
     }
 }
 
@@ -199,7 +188,7 @@ fn lent_most_reports() {
     (watch.state.due.count, watch.state.given) = (25, 15);
     assert_eq!((watch.state.owed().len(), watch.step(LATE, 9)), (10, Reply::Clean(9)));
     watch.state.given = 14;
-    is_refused(watch);
+    is_refused(watch, refused::STATE, TICK, 0);
 }
 
 /// The readers answer of any state, also where question 12 would refuse it.

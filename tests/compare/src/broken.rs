@@ -14,7 +14,7 @@ use crate::state;
 /// Breaks the state in one way; says No, with the state as it was, where the state has nothing to break so.
 pub type Break = fn(&mut Parts, &mut Random) -> bool;
 
-pub const WAYS: [(&str, Break); 31] = [
+pub const WAYS: [(&str, Break); 41] = [
     ("plan fails 1: no thread", no_thread),
     ("plan fails 1: too many threads", too_many_threads),
     ("plan fails 1: too many sections", |p, r| {
@@ -25,6 +25,9 @@ pub const WAYS: [(&str, Break); 31] = [
     ("thread not below T in the line", |p, r| listed_beyond(&mut p.line, p.threads, r)),
     ("thread not below T in the holds", holder_beyond),
     ("thread not below T in the waits", |p, r| listed_beyond(&mut p.waits, p.threads, r)),
+    ("thread not below T in the order of Delays", |p, r| {
+        listed_beyond(&mut p.delays, p.threads, r)
+    }),
     ("thread not below T reported", |p, r| {
         let any = r.between(p.threads, 254);
         set(&mut p.given, r.pick(&[p.threads, any, 254]) as u16)
@@ -65,12 +68,21 @@ pub const WAYS: [(&str, Break); 31] = [
     ("section held twice", held_twice),
     ("thread twice in the line", |p, r| listed_twice(&mut p.line, r)),
     ("thread twice in the waits", |p, r| listed_twice(&mut p.waits, r)),
+    ("sleeper twice in the order of Delays", |p, r| listed_twice(&mut p.delays, r)),
+    ("sleeper twice in the order of Delays, another missing", listed_for_another),
+    ("sleeper missing from the order of Delays", |p, r| remove(&mut p.delays, r)),
+    ("dormant thread in the order of Delays", |p, r| named_asleep(p, 0, r)),
+    ("ready thread in the order of Delays", |p, r| named_asleep(p, 1, r)),
+    ("waiting thread in the order of Delays", |p, r| named_asleep(p, 3, r)),
     ("thread in no condition: number", no_such_condition),
     ("thread in no condition: number, of a thread in a list", no_such_condition_listed),
     ("thread in no condition: ready, not in the line", |p, r| remove(&mut p.line, r)),
     ("thread in no condition: waiting, not in the waits", |p, r| remove(&mut p.waits, r)),
     ("thread in two conditions", in_two),
     ("more than T + 9 due", too_many_due),
+    ("nothing due, another thread reported than the chosen one", another_reported),
+    ("nothing due, nobody reported though a thread is chosen", nobody_reported),
+    ("nothing due, a thread reported though nobody is chosen", one_reported),
 ];
 
 /// A state with one break, and one step on it: both answer 12 and change nothing.
@@ -96,14 +108,17 @@ pub fn beyond_the_room(break_it: state::Lengthen, random: &mut Random) -> Compar
     Ok(vec![refused_12(watch, record)?.into()])
 }
 
-/// A state that question 12 lets pass.
+/// A state that question 12 lets pass. In many a report is due, so that a break that moves the chosen thread is still the only one.
 fn whole_parts(random: &mut Random) -> Parts {
     loop {
-        let parts = if random.one_in(3) {
+        let mut parts = if random.one_in(3) {
             reached_parts(random)
         } else {
             formed_parts(random)
         };
+        if parts.due.is_empty() && random.one_in(2) {
+            parts.due.push(some_report(parts.threads, random));
+        }
         if parts.machine(Fault::None).is_some() {
             return parts;
         }
@@ -202,19 +217,19 @@ fn too_many_threads(parts: &mut Parts, random: &mut Random) -> bool {
     set(&mut parts.threads, random.pick(&[17, 18, 255, 256, usize::MAX]))
 }
 
-/// A dormant or sleeping thread, which stands in no list.
+/// A dormant thread, which stands in no list.
 fn no_such_condition(parts: &mut Parts, random: &mut Random) -> bool {
     let number = random.between(4, state::GREATEST.into()) as u8;
-    let unlisted = some_in(parts, &[0, 2], random);
+    let unlisted = some_in(parts, &[0], random);
     unlisted.is_some_and(|condition| set(condition, (number, 0)))
 }
 
-/// A ready or waiting thread, which goes on standing in its list; often with a number whose lowest two bits are as they were.
+/// A thread that is not dormant, which goes on standing in its list; often with a number whose lowest two bits are as they were.
 fn no_such_condition_listed(parts: &mut Parts, random: &mut Random) -> bool {
     let any = random.between(4, state::GREATEST.into()) as u8;
     let more = random.pick(&[4, 8, 12]);
     let alike = random.one_in(2);
-    let Some(condition) = some_in(parts, &[1, 3], random) else {
+    let Some(condition) = some_in(parts, &[1, 2, 3], random) else {
         return false;
     };
     condition.0 = if alike { condition.0 + more } else { any };
@@ -302,6 +317,53 @@ fn in_two(parts: &mut Parts, random: &mut Random) -> bool {
     } else {
         false
     }
+}
+
+/// One sleeper's place goes to another one, and the order keeps its length.
+fn listed_for_another(parts: &mut Parts, random: &mut Random) -> bool {
+    if parts.delays.len() < 2 {
+        return false;
+    }
+    random.shuffle(&mut parts.delays);
+    parts.delays[0] = parts.delays[1];
+    random.shuffle(&mut parts.delays);
+    true
+}
+
+/// A thread in that condition, beside the sleepers or in the place of one.
+fn named_asleep(parts: &mut Parts, condition: u8, random: &mut Random) -> bool {
+    let conditions = parts.conditions.iter().zip(0..);
+    let threads: Vec<u16> = conditions.filter(|(c, _)| c.0 == condition).map(|(_, thread)| thread).collect();
+    if threads.is_empty() {
+        return false;
+    }
+    let thread = random.pick(&threads);
+    if !parts.delays.is_empty() && random.one_in(2) {
+        remove(&mut parts.delays, random);
+    }
+    add(&mut parts.delays, thread, random)
+}
+
+fn another_reported(parts: &mut Parts, random: &mut Random) -> bool {
+    let chosen = parts.chosen().filter(|chosen| *chosen != NOBODY && parts.threads > 1);
+    chosen.is_some_and(|chosen| {
+        let other = usize::from(chosen) + random.between(1, parts.threads - 1);
+        reported_with_nothing_due(parts, (other % parts.threads) as u16)
+    })
+}
+
+fn nobody_reported(parts: &mut Parts, _: &mut Random) -> bool {
+    parts.chosen() != Some(NOBODY) && reported_with_nothing_due(parts, NOBODY)
+}
+
+fn one_reported(parts: &mut Parts, random: &mut Random) -> bool {
+    let any = random.below(parts.threads) as u16;
+    parts.chosen() == Some(NOBODY) && reported_with_nothing_due(parts, any)
+}
+
+fn reported_with_nothing_due(parts: &mut Parts, thread: u16) -> bool {
+    parts.due.clear();
+    set(&mut parts.given, thread)
 }
 
 /// The library's array holds T + 9 for 16 threads; more than that is among the lengths beyond the room.

@@ -3,7 +3,7 @@
 use beltcairn::Verdict;
 use second::{Fault, MOST_RECORDS, TIMERS};
 
-use crate::answer::Answer;
+use crate::answer::{woken_together, Answer};
 use crate::bytes::{list, Numbers};
 use crate::difference::{differ, Compared};
 use crate::lent::some_count;
@@ -37,6 +37,7 @@ pub fn honest(fault: Fault, random: &mut Random) -> Compared<Vec<Answer>> {
     answers.extend((records.len() == MOST_RECORDS).then_some(LONGEST));
     answers.extend(records.iter().any(|(kind, _)| *kind == 21).then_some(EXPIRY));
     answers.extend(records.iter().any(|(kind, count)| *kind == 22 && *count > 0).then_some(LATE));
+    answers.extend(woken_together(&records));
     Ok(answers)
 }
 

@@ -3,7 +3,7 @@
 use beltcairn::Verdict;
 use second::{Fault, Reply};
 
-use crate::answer::{breaches, Answer};
+use crate::answer::{breaches, woken_together, Answer, HIGHER_FIRST, LOWER_FIRST};
 use crate::bytes::{list, plan, Numbers};
 use crate::difference::{differ, Compared, Difference};
 use crate::family::Family;
@@ -72,10 +72,14 @@ impl Small {
         records
     }
 
-    /// The rules that its lists reach.
-    pub fn rules(&self) -> Vec<Answer> {
+    /// The rules that its lists reach, and with two equal threads sleepers of one tick in either order.
+    pub fn reaches(&self) -> Vec<Answer> {
         let of_timers = if self.timers > 0 { breaches(31, 32) } else { Vec::new() };
-        [breaches(21, 22), breaches(28, 30), of_timers].concat()
+        let together = match self.plan[..] {
+            [2, _, one, other, ..] if one == other => vec![LOWER_FIRST, HIGHER_FIRST],
+            _ => Vec::new(),
+        };
+        [breaches(21, 22), breaches(28, 30), of_timers, together].concat()
     }
 }
 
@@ -159,11 +163,12 @@ impl<'a> Walk<'a> {
             if self.spent() {
                 return Ok(());
             }
-            records.push(self.alphabet[i]);
+            let record = self.alphabet[i];
+            records.push(record);
             let mut next = pair.clone();
             let reply = self.one(&mut next, records);
             let goes_on = matches!(reply, Ok(Reply::Clean { .. }));
-            self.count(reply.map(|reply| vec![reply.into()]))?;
+            self.count(reply.map(|reply| answers(reply, record, &next.parts().due)))?;
             if goes_on {
                 self.below(&next, records, length)?;
             }
@@ -218,4 +223,13 @@ impl<'a> Walk<'a> {
             }
         }
     }
+}
+
+/// The reply, and after a clean Tick in which order sleepers have become ready.
+fn answers(reply: Reply, (kind, _): Numbers, due: &[Numbers]) -> Vec<Answer> {
+    let mut answers = vec![reply.into()];
+    if kind == 7 && matches!(reply, Reply::Clean { .. }) {
+        answers.extend(woken_together(due));
+    }
+    answers
 }

@@ -1,4 +1,4 @@
-//! The known runs of document 01, with the verdicts that it prints.
+//! The known runs of document 01, with the verdicts that it prints, and the one that joins them with document 02, item 3.
 
 use beltcairn::{Verdict, Written};
 use second::Fault;
@@ -17,8 +17,8 @@ pub struct Known {
     verdict: Verdict,
 }
 
-/// The runs in document 01's order. Run A is P1, its plan `03 01 01 02 03 01 00 00 00 01 00`.
-pub const RUNS: [Known; 14] = [
+/// The runs in document 01's order, and P14. Run A is P1, its plan `03 01 01 02 03 01 00 00 00 01 00`.
+pub const RUNS: [Known; 15] = [
     Known {
         name: "P1",
         sections: 1,
@@ -103,6 +103,11 @@ pub const RUNS: [Known; 14] = [
             Give 0; Won 2; Ready 2; Switch 2",
         verdict: clean(31, 0),
     },
+    equals(
+        "P14",
+        "Create 1; Ready 1; Switch 1; Create 0; Ready 0; Delay 1; Switch 0; Delay 1; Switch nobody; Tick; Tick; Ready 1; Ready 0; Switch 1",
+        clean(14, 0),
+    ),
 ];
 
 const fn alone(name: &'static str, records: &'static str, verdict: Verdict) -> Known {
@@ -174,7 +179,7 @@ fn record(text: &str) -> Numbers {
     (kind, operand)
 }
 
-/// Both say what document 01 says, step by step as well; and from the calls of a clean one with nothing due, both benches write it.
+/// Both say what the documents say, step by step as well; and from the calls of a clean one with nothing due, both benches write it.
 pub fn agrees(fault: Fault, known: &Known) -> Compared<Vec<Answer>> {
     let (plan, records) = (plan(known.sections, known.bases, known.needs), records(known.records));
     let dump = list(&records);

@@ -2,7 +2,7 @@
 
 use second::{Fault, Parts, Plan, Reply, Watch, LAST_EXPIRY, LAST_SLEEPER, LAST_TICK, NOBODY, TIMERS};
 
-use crate::answer::Answer;
+use crate::answer::{woken_together, Answer};
 use crate::bytes::Numbers;
 use crate::difference::Compared;
 use crate::random::Random;
@@ -12,31 +12,55 @@ use crate::sides::Pair;
 /// A Period after which the count lost is the greatest that is written; no dump has so many Ticks.
 pub const CUT: Answer = Answer::Showed("a count of 65535");
 
-/// A few steps on a state that a run reaches.
+/// A state that 12 lets pass though another thread is chosen than the one last reported: reports are due.
+pub const APART: Answer = Answer::Showed("not 12, with reports due and another thread chosen");
+
+/// A few steps on a state that a run reaches; none of them leaves one that answers 12.
 pub fn reached(fault: Fault, random: &mut Random) -> Compared<Vec<Answer>> {
     let parts = reached_parts(random);
-    some_steps(fault, &parts, random)
+    some_steps(fault, &parts, usize::MAX, random)
 }
 
-/// A few steps on a well-formed state, reached or not.
+/// A few steps on a well-formed state, reached or not. Those behind the first may answer 12: with the last report given, the chosen thread
+/// need not be the one last reported.
 pub fn well_formed(fault: Fault, random: &mut Random) -> Compared<Vec<Answer>> {
     let parts = formed_parts(random);
-    some_steps(fault, &parts, random)
+    let mut answers = some_steps(fault, &parts, 1, random)?;
+    answers.extend(is_apart(&parts).then_some(APART));
+    Ok(answers)
 }
 
-fn some_steps(fault: Fault, parts: &Parts, random: &mut Random) -> Compared<Vec<Answer>> {
+/// A Switch that is due counts as reported.
+fn is_apart(parts: &Parts) -> bool {
+    let chosen = parts.chosen().expect("the state was made to pass");
+    !parts.due.is_empty() && parts.given != chosen && !parts.due.contains(&(17, chosen))
+}
+
+/// So many of the steps, from the first on, are let pass by 12.
+fn some_steps(fault: Fault, parts: &Parts, let_pass: usize, random: &mut Random) -> Compared<Vec<Answer>> {
     let mut pair = Pair::lent(fault, parts, random);
     let mut answers = Vec::new();
-    for _ in 0..random.between(1, 6) {
+    for number in 0..random.between(1, 6) {
         let record = some_record(pair.parts(), random);
-        let reply = pair.step(record)?;
+        let reply = match number < let_pass {
+            true => pair.step_let_pass(record)?,
+            false => pair.step(record)?,
+        };
         answers.push(reply.into());
-        let clean = matches!(reply, Reply::Clean { .. });
-        if clean && record.0 == 10 && pair.parts().due.first() == Some(&(22, 65535)) {
-            answers.push(CUT);
+        if let Reply::Clean { .. } = reply {
+            answers.extend(shown(record, &pair.parts().due));
         }
     }
     Ok(answers)
+}
+
+/// What the reports due behind a clean call show.
+fn shown((kind, _): Numbers, due: &[Numbers]) -> Vec<Answer> {
+    match kind {
+        7 => woken_together(due).into_iter().collect(),
+        10 if due.first() == Some(&(22, 65535)) => vec![CUT],
+        _ => Vec::new(),
+    }
 }
 
 /// The state after the first records of an honest run.
@@ -50,8 +74,8 @@ pub fn reached_parts(random: &mut Random) -> Parts {
     watch.parts().clone()
 }
 
-/// A state that question 12 lets pass: any conditions, with line and waits in any order, any holds, any timers, an arming at any stage, any
-/// reports due.
+/// A state that question 12 lets pass: any conditions, with line, waits and Delays in any order, any holds, any timers, an arming at any
+/// stage, any reports due. With none due the chosen thread is the last reported one, with some due anyone is.
 pub fn formed_parts(random: &mut Random) -> Parts {
     let plan = plan(random);
     formed_under(&plan, random)
@@ -61,15 +85,16 @@ pub fn formed_under(plan: &[u8], random: &mut Random) -> Parts {
     let plan = Plan::read(plan, Fault::None).expect("the plan was made to pass");
     let (threads, sections) = (plan.threads(), plan.sections());
     let tick = some_tick(random);
-    let conditions: Vec<(u8, u64)> = (0..threads).map(|_| some_condition(sections, tick, random)).collect();
+    let conditions = some_conditions(threads, sections, tick, random);
     let stored = if random.one_in(8) { random.between(21, 32) as u8 } else { 0 };
-    Parts {
+    let mut parts = Parts {
         threads,
         sections,
         bases: plan.bases().to_vec(),
         needs: plan.needs_bits().to_vec(),
         tick,
         line: shuffled(&conditions, 1, random),
+        delays: shuffled(&conditions, 2, random),
         waits: shuffled(&conditions, 3, random),
         conditions,
         holds: some_holds(threads, sections, random),
@@ -78,7 +103,11 @@ pub fn formed_under(plan: &[u8], random: &mut Random) -> Parts {
         given: some_thread_or_nobody(threads, random),
         due: some_due(threads, random),
         stored,
+    };
+    if parts.due.is_empty() {
+        parts.given = parts.chosen().expect("whoever was reported, the state is well-formed");
     }
+    parts
 }
 
 fn some_tick(random: &mut Random) -> u64 {
@@ -88,6 +117,16 @@ fn some_tick(random: &mut Random) -> u64 {
         2 => 65535 + random.below(3) as u64,
         _ => random.below(10) as u64,
     }
+}
+
+/// In one state of four most threads are asleep, so that some share a tick.
+fn some_conditions(threads: usize, sections: usize, tick: u64, random: &mut Random) -> Vec<(u8, u64)> {
+    let asleep_of_four = random.pick(&[0, 0, 0, 3]);
+    let mut condition = |_| match random.below(4) < asleep_of_four {
+        true => (2, some_wake(tick, random)),
+        false => some_condition(sections, tick, random),
+    };
+    (0..threads).map(&mut condition).collect()
 }
 
 /// Ready more often than the rest, so that somebody runs.

@@ -3,7 +3,7 @@
 use std::process::ExitCode;
 use std::time::Instant;
 
-use compare::answer::{breaches, refusals, Answer};
+use compare::answer::{breaches, refusals, Answer, HIGHER_FIRST, LOWER_FIRST};
 use compare::calls::Calls;
 use compare::enumerate::{covered, plans, Walk};
 use compare::family::{Family, Trial};
@@ -13,6 +13,7 @@ use second::Fault;
 
 const SEED: u64 = 1;
 const CLEAN: [Answer; 2] = [Answer::Clean, Answer::CleanWithDue];
+const TOGETHER: [Answer; 2] = [LOWER_FIRST, HIGHER_FIRST];
 
 /// How many inputs the families of a comparison have.
 struct Scale {
@@ -128,7 +129,7 @@ fn every_list(tally: &mut Tally, long: bool) {
         let length = small.records[usize::from(long)];
         let name = format!("every list, {}, up to {length} records", small.name);
         let family = Walk::all(&small, &name, length);
-        tally.take(&family, &[CLEAN.to_vec(), small.rules()].concat());
+        tally.take(&family, &[CLEAN.to_vec(), small.reaches()].concat());
         println!("    with what their breaches decide, {:.3e} lists", covered(&small, length));
         lists += family.inputs;
     }
@@ -149,7 +150,7 @@ fn every_call_list(tally: &mut Tally, long: bool) {
 
 fn random_dumps(tally: &mut Tally, inputs: u64) {
     let shown = [Answer::Clean, dumps::LONGEST, dumps::EXPIRY, dumps::LATE];
-    tally.random("honest", dumps::honest, inputs, &shown);
+    tally.random("honest", dumps::honest, inputs, &[&shown[..], &TOGETHER].concat());
     let cut = [CLEAN.to_vec(), vec![dumps::INSIDE], refusals(&[5, 6])].concat();
     tally.random("cut short", dumps::cut, inputs, &cut);
     tally.random(
@@ -189,7 +190,7 @@ fn lent_states(tally: &mut Tally, scale: &Scale) {
         "lent, well-formed",
         lent::well_formed,
         scale.lent,
-        &[wanted, refusals(&[13]), vec![lent::CUT]].concat(),
+        &[wanted, refusals(&[12, 13]), vec![lent::CUT, lent::APART], TOGETHER.to_vec()].concat(),
     );
     for (name, break_it) in broken::WAYS {
         let mut family = Family::new(&format!("lent, broken: {name}"));

@@ -28,6 +28,7 @@ pub fn lend(parts: &Parts, random: &mut Random) -> Watch {
         queue: queue(&parts.line, random),
         holds: holds(&parts.holds, random),
         waits: queue(&parts.waits, random),
+        delays: queue(&parts.delays, random),
         reported: who(parts.given),
         timers: timers(parts, random),
     };
@@ -53,6 +54,7 @@ pub fn parts(watch: &Watch) -> Parts {
         line: threads_in(&machine.queue),
         holds: oldest_first(&machine.holds),
         waits: threads_in(&machine.waits),
+        delays: threads_in(&machine.delays),
         timers: expiries_and_periods(&machine.timers),
         arming: arming_in(&machine.timers.arming),
         given: named(machine.reported),
@@ -74,12 +76,15 @@ pub fn with_breach(watch: &Watch, rule: u8) -> Watch {
 pub type Lengthen = fn(&mut Watch, usize);
 
 /// Lengths that the words and the array of the state have no room for, one way at a time.
-pub const LENGTHS: [(&str, Lengthen); 4] = [
+pub const LENGTHS: [(&str, Lengthen); 5] = [
     ("line longer than its word", |watch, excess| {
         watch.state.machine.queue.count = ENTRIES + excess
     }),
     ("waits longer than their word", |watch, excess| {
         watch.state.machine.waits.count = ENTRIES + excess
+    }),
+    ("order of Delays longer than its word", |watch, excess| {
+        watch.state.machine.delays.count = ENTRIES + excess
     }),
     ("holds longer than their words", |watch, excess| {
         watch.state.machine.holds.count = ENTRIES + excess

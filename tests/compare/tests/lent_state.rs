@@ -1,27 +1,29 @@
 //! A state as it is lent to the library: what is in use stands where the header says, and what is not takes every number.
 
 use std::collections::BTreeSet;
+use std::mem::{offset_of, size_of};
 
 use beltcairn::packed::numbers;
-use beltcairn::Watch;
+use beltcairn::{Machine, Watch};
 use compare::random::Random;
 use compare::state::{lend, parts, REPORTS};
 use second::Parts;
 
-/// Threads 2 and 0 in the line in this order, 1 asleep, 3 dormant, 5 and 4 waiting in this order for sections 2 and 0. Section 1 is taken
-/// by 2, and then 3 by 0. Timer 1 expires at 300 and every 258 ticks, 6 is an alarm at 8. Timer 5 is being armed, from 515 on. Due are a Switch
+/// Threads 2 and 0 in the line in this order, 6 and 1 asleep since Delays in this order, 3 dormant, 5 and 4 waiting in this order for sections
+/// 2 and 0. Section 1 is taken by 2, and then 3 by 0. Timer 1 expires at 300 and every 258 ticks, 6 is an alarm at 8. Timer 5 is being armed, from 515 on. Due are a Switch
 /// to nobody, an Expire and a Late.
-fn six_threads() -> Parts {
+fn seven_threads() -> Parts {
     Parts {
-        threads: 6,
+        threads: 7,
         sections: 4,
-        bases: vec![1; 6],
-        needs: vec![15; 6],
+        bases: vec![1; 7],
+        needs: vec![15; 7],
         tick: 7,
-        conditions: vec![(1, 0), (2, 9), (1, 0), (0, 0), (3, 0), (3, 2)],
+        conditions: vec![(1, 0), (2, 9), (1, 0), (0, 0), (3, 0), (3, 2), (2, 10)],
         line: vec![2, 0],
         holds: vec![(1, 2), (3, 0)],
         waits: vec![5, 4],
+        delays: vec![6, 1],
         timers: [(0, 0), (300, 258), (0, 0), (0, 0), (0, 0), (0, 0), (8, 0), (0, 0)],
         arming: (2, 5, 515),
         given: 2,
@@ -32,7 +34,7 @@ fn six_threads() -> Parts {
 
 /// The state lent over and over, filled otherwise each time.
 fn lent() -> impl Iterator<Item = Watch> {
-    lent_as(six_threads())
+    lent_as(seven_threads())
 }
 
 fn lent_as(parts: Parts) -> impl Iterator<Item = Watch> {
@@ -40,16 +42,26 @@ fn lent_as(parts: Parts) -> impl Iterator<Item = Watch> {
     (0..2000).map(move |_| lend(&parts, &mut random))
 }
 
+/// A state of another layout would be read past its end by the library.
+#[test]
+fn the_library_is_of_the_layout_that_is_lent() {
+    assert_eq!((beltcairn::abi(), beltcairn::ABI), (3, 3));
+    assert_eq!((offset_of!(Machine, waits), offset_of!(Machine, delays)), (192, 208));
+    assert_eq!((offset_of!(Machine, reported), offset_of!(Machine, timers)), (224, 228));
+    assert_eq!((size_of::<Machine>(), size_of::<Watch>()), (280, 408));
+}
+
 #[test]
 fn what_is_in_use_stands_where_the_header_says() {
     for watch in lent() {
         let m = &watch.state.machine;
-        assert_eq!((m.slots.states & 0xff_ffff, m.slots.wants & 0xff_0000), (0x33_0121, 0x20_0000));
-        assert_eq!((m.tick, m.wakes[1], m.reported), (7, 9, 2));
+        assert_eq!((m.slots.states & 0xfff_ffff, m.slots.wants & 0xff_0000), (0x233_0121, 0x20_0000));
+        assert_eq!((m.tick, m.wakes[1], m.wakes[6], m.reported), (7, 9, 10, 2));
         assert_eq!((m.queue.items & 0xff, m.queue.count), (0x02, 2));
         assert_eq!((m.waits.items & 0xff, m.waits.count), (0x45, 2));
+        assert_eq!((m.delays.items & 0xff, m.delays.count), (0x16, 2));
         assert_eq!((m.holds.sections & 0xff, m.holds.threads & 0xff, m.holds.count), (0x13, 0x20, 2));
-        assert_eq!(parts(&watch), six_threads());
+        assert_eq!(parts(&watch), seven_threads());
     }
 }
 
@@ -77,18 +89,19 @@ fn taken(word: fn(&Watch) -> u64) -> [u16; 16] {
 #[test]
 fn what_is_not_in_use_takes_every_number() {
     let every = u16::MAX;
-    assert_eq!(taken(|w| w.state.machine.slots.states)[6..], [every; 10]);
+    assert_eq!(taken(|w| w.state.machine.slots.states)[7..], [every; 9]);
     assert_eq!(taken(|w| w.state.machine.slots.wants)[..4], [every; 4]);
     assert_eq!(taken(|w| w.state.machine.slots.wants)[6..], [every; 10]);
     assert_eq!(taken(|w| w.state.machine.queue.items)[2..], [every; 14]);
     assert_eq!(taken(|w| w.state.machine.waits.items)[2..], [every; 14]);
+    assert_eq!(taken(|w| w.state.machine.delays.items)[2..], [every; 14]);
     assert_eq!(taken(|w| w.state.machine.holds.sections)[2..], [every; 14]);
     assert_eq!(taken(|w| w.state.machine.holds.threads)[2..], [every; 14]);
 }
 
 #[test]
 fn tick_numbers_of_threads_not_asleep_are_due_or_out_of_range() {
-    for thread in (0..16).filter(|thread| *thread != 1) {
+    for thread in (0..16).filter(|thread| ![1, 6].contains(thread)) {
         for tick in [7, 8, u32::MAX] {
             assert!(lent().any(|watch| watch.state.machine.wakes[thread] == tick), "{thread} {tick}");
         }
@@ -105,7 +118,7 @@ fn periods_of_timers_not_armed_are_any() {
 
 #[test]
 fn what_an_arming_has_not_come_to_is_any() {
-    let at = |arming| lent_as(Parts { arming, ..six_threads() });
+    let at = |arming| lent_as(Parts { arming, ..seven_threads() });
     let timers: BTreeSet<u8> = at((0, 0, 0)).map(|watch| watch.state.machine.timers.arming.timer).collect();
     assert!(timers.len() > 200 && timers.contains(&0) && timers.contains(&8));
     for arming in [(0, 0, 0), (1, 5, 0)] {

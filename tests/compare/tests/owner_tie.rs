@@ -5,25 +5,41 @@ mod pairs;
 
 use compare::bytes::Numbers;
 use pairs::step;
-use second::{Fault, Parts, Reply, NOBODY};
+use second::{Fault, Parts, Reply};
 
-/// Threads 0 and 1 of base 1 are ready and hold sections 0 and 1. Thread 2 of base 2 needs both, so both ceilings are 2; it waits.
+/// Threads 0 and 1 of base 1 are ready and hold sections 0 and 1. Thread 2 of base 2 needs both, so both ceilings are 2; it waits. Thread 3
+/// of base 3 is ready and runs, so that the tie decides nothing yet.
 fn tie() -> Parts {
     Parts {
-        threads: 3,
+        threads: 4,
         sections: 2,
-        bases: vec![1, 1, 2],
-        needs: vec![1, 2, 3],
-        tick: 0,
-        conditions: vec![(1, 0), (1, 0), (3, 0)],
-        line: vec![0, 1],
+        bases: vec![1, 1, 2, 3],
+        needs: vec![1, 2, 3, 0],
+        conditions: vec![(1, 0), (1, 0), (3, 0), (1, 0)],
+        line: vec![0, 1, 3],
         holds: vec![(0, 0), (1, 1)],
         waits: vec![2],
-        timers: [(0, 0); 8],
-        arming: (0, 0, 0),
-        given: NOBODY,
+        given: 3,
+        ..Parts::default()
+    }
+}
+
+/// The state after the End of thread 3: a Switch to that thread is due.
+fn ended(before: &Parts, switched_to: u16) -> Parts {
+    Parts {
+        conditions: vec![(1, 0), (1, 0), (3, 0), (0, 0)],
+        line: vec![0, 1],
+        due: vec![(SWITCH, switched_to)],
+        ..before.clone()
+    }
+}
+
+/// The same once the Switch to thread 1 is given.
+fn one_runs() -> Parts {
+    Parts {
+        given: 1,
         due: Vec::new(),
-        stored: 0,
+        ..ended(&tie(), 1)
     }
 }
 
@@ -31,21 +47,16 @@ fn told_apart(parts: &Parts, record: Numbers) -> bool {
     pairs::told_apart(Fault::OwnerTie, parts, record)
 }
 
+const END: Numbers = (4, 0);
 const GIVE: u8 = 6;
-const TICK: Numbers = (7, 0);
 const LOST: u8 = 19;
 const SWITCH: u8 = 17;
 
 #[test]
 fn the_later_taker_is_raised_and_chosen() {
-    // Thread 1 took later, is the owner, and has current priority 2; 0 has its base 1. Nobody was reported, so Switch 1 is due.
-    let after = Parts {
-        tick: 1,
-        due: vec![(SWITCH, 1)],
-        ..tie()
-    };
-    assert_eq!(step(&tie(), TICK), (Reply::Clean { due: 1 }, after));
-    assert!(told_apart(&tie(), TICK));
+    // Thread 1 took later, is the owner, and has current priority 2; 0 has its base 1.
+    assert_eq!(step(&tie(), END), (Reply::Clean { due: 1 }, ended(&tie(), 1)));
+    assert!(told_apart(&tie(), END));
 }
 
 #[test]
@@ -53,22 +64,31 @@ fn the_order_of_taking_decides_and_not_the_number() {
     // The same holds taken the other way round: now 0 is the owner.
     let turned = Parts {
         holds: vec![(1, 1), (0, 0)],
+        line: vec![1, 0, 3],
         ..tie()
     };
     let after = Parts {
-        tick: 1,
-        due: vec![(SWITCH, 0)],
-        ..turned.clone()
+        line: vec![1, 0],
+        ..ended(&turned, 0)
     };
-    assert_eq!(step(&turned, TICK), (Reply::Clean { due: 1 }, after));
-    assert!(told_apart(&turned, TICK));
+    assert_eq!(step(&turned, END), (Reply::Clean { due: 1 }, after));
+    assert!(told_apart(&turned, END));
 }
 
 #[test]
 fn the_later_taker_is_the_caller() {
     // Thread 1 calls, so section 0 is not the one that the caller took last: rule 27, stored.
-    assert_eq!(step(&tie(), (GIVE, 0)), (Reply::Broken(27), Parts { stored: 27, ..tie() }));
-    assert!(told_apart(&tie(), (GIVE, 0)));
+    let stored = Parts { stored: 27, ..one_runs() };
+    assert_eq!(step(&one_runs(), (GIVE, 0)), (Reply::Broken(27), stored));
+    assert!(told_apart(&one_runs(), (GIVE, 0)));
+}
+
+#[test]
+fn the_later_taker_is_the_one_to_be_reported() {
+    // With nothing due and 0 reported, though 1 is chosen, 12 is due.
+    let other = Parts { given: 0, ..one_runs() };
+    assert_eq!(step(&other, (GIVE, 0)), (Reply::Refused(12), other.clone()));
+    assert!(told_apart(&other, (GIVE, 0)));
 }
 
 #[test]
@@ -77,10 +97,10 @@ fn the_other_holder_is_the_owner_after_the_give() {
     let after = Parts {
         holds: vec![(0, 0)],
         due: vec![(LOST, 2), (SWITCH, 0)],
-        ..tie()
+        ..one_runs()
     };
-    assert_eq!(step(&tie(), (GIVE, 1)), (Reply::Clean { due: 2 }, after));
-    assert!(told_apart(&tie(), (GIVE, 1)));
+    assert_eq!(step(&one_runs(), (GIVE, 1)), (Reply::Clean { due: 2 }, after));
+    assert!(told_apart(&one_runs(), (GIVE, 1)));
 }
 
 #[test]
@@ -88,15 +108,10 @@ fn a_lower_ceiling_taken_last_does_not_count() {
     // A third section, taken last by 0 and needed by 0 alone, has ceiling 1: the tie is among the two of ceiling 2, and 1 took later.
     let third = Parts {
         sections: 3,
-        needs: vec![5, 2, 3],
+        needs: vec![5, 2, 3, 0],
         holds: vec![(0, 0), (1, 1), (2, 0)],
         ..tie()
     };
-    let after = Parts {
-        tick: 1,
-        due: vec![(SWITCH, 1)],
-        ..third.clone()
-    };
-    assert_eq!(step(&third, TICK), (Reply::Clean { due: 1 }, after));
-    assert!(told_apart(&third, TICK));
+    assert_eq!(step(&third, END), (Reply::Clean { due: 1 }, ended(&third, 1)));
+    assert!(told_apart(&third, END));
 }

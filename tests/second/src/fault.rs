@@ -32,8 +32,13 @@ pub enum Fault {
     WaitsNewestFirst,
     /// The waits stand in the order of the thread numbers.
     WaitsByNumber,
-    /// Sleepers of one tick wake with the higher thread number first.
-    SleepersOrder,
+    /// Sleepers of one tick wake with the lower thread number first.
+    SleepersByNumber,
+    /// Sleepers of one tick wake with the latest Delay first.
+    LatestDelayFirst,
+    /// A thread that delays again gets its old place in the order of Delays, that of its first Delay. In a lent state only the sleepers have
+    /// a place; the others get one with a Delay in a step.
+    DelayAgainKeepsPlace,
     /// Relinquish compares base priorities.
     RelinquishBases,
     /// An heir becomes ready at the line's front.
@@ -102,7 +107,7 @@ pub enum Fault {
 
 impl Fault {
     /// Every mistake, without `None`.
-    pub const ALL: [Fault; 45] = [
+    pub const ALL: [Fault; 47] = [
         Fault::NeedsByteOrder,
         Fault::CountByteOrder,
         Fault::OperandByteOrder,
@@ -115,7 +120,9 @@ impl Fault {
         Fault::HeirTie,
         Fault::WaitsNewestFirst,
         Fault::WaitsByNumber,
-        Fault::SleepersOrder,
+        Fault::SleepersByNumber,
+        Fault::LatestDelayFirst,
+        Fault::DelayAgainKeepsPlace,
         Fault::RelinquishBases,
         Fault::HeirAtFront,
         Fault::WokenAtFront,

@@ -1,5 +1,6 @@
 //! A watch state as plain numbers, as a caller may lend it, and question 12.
 
+use crate::delays::Delays;
 use crate::fault::Fault;
 use crate::machine::{Condition, Hold, Machine};
 use crate::plan::Plan;
@@ -29,6 +30,8 @@ pub struct Parts {
     /// Section and thread, oldest first.
     pub holds: Vec<(u16, u16)>,
     pub waits: Vec<u16>,
+    /// The sleeping threads in order of their Delay calls.
+    pub delays: Vec<u16>,
     /// Per timer the tick number of its next expiry, 0 where it is not armed, and its
     /// period. The period of a timer that is not armed means nothing.
     pub timers: [(u64, u16); TIMERS],
@@ -59,9 +62,10 @@ impl Parts {
             line: numbers(&line),
             holds: holds.collect(),
             waits: numbers(&machine.waits),
+            delays: numbers(&machine.sleepers()),
             timers: std::array::from_fn(|timer| timer_numbers(machine.timers.armed.get(&timer))),
             arming: arming_numbers(machine.timers.arming),
-            given: machine.given.map_or(NOBODY, |thread| thread as u16),
+            given: thread_number(machine.given),
             due: machine.due.iter().map(|report| report.numbers()).collect(),
             stored,
         }
@@ -69,6 +73,19 @@ impl Parts {
 
     /// The machine in this state, or nothing where question 12 is answered No.
     pub fn machine(&self, fault: Fault) -> Option<Machine> {
+        let formed = self.formed(fault)?;
+        let running_is_reported = formed.chosen() == formed.given;
+        (running_is_reported || !formed.due.is_empty()).then_some(formed)
+    }
+
+    /// The chosen thread, or `NOBODY`; nothing where question 12 is answered No for another reason than who was last reported.
+    pub fn chosen(&self) -> Option<u16> {
+        let formed = self.formed(Fault::None)?;
+        Some(thread_number(formed.chosen()))
+    }
+
+    // All of question 12 but its last part, that with nothing due the chosen thread is the last reported one.
+    fn formed(&self, fault: Fault) -> Option<Machine> {
         let plan = self.plan()?;
         if !self.numbers_in_range() || !self.lists_agree() {
             return None;
@@ -88,6 +105,7 @@ impl Parts {
             line: all_below(&self.line, threads)?.into(),
             holds: holds?,
             waits: all_below(&self.waits, threads)?,
+            delays: Delays::in_order(&all_below(&self.delays, threads)?, threads),
             timers: self.timers()?,
             given,
             due: due?,
@@ -119,15 +137,16 @@ impl Parts {
         })
     }
 
-    /// No section is held twice, no thread is listed twice, and each thread is in exactly
-    /// one condition, which the line and the waits bear out.
+    /// No section is held twice, and each thread is in exactly one condition, which the line, the order of Delays and the waits bear out:
+    /// they name it just once or not at all.
     fn lists_agree(&self) -> bool {
         let held: Vec<u16> = self.holds.iter().map(|(section, _)| *section).collect();
-        let each_in_one = self.conditions.iter().enumerate().all(|(thread, (number, _))| {
-            let thread = thread as u16;
-            self.line.contains(&thread) == (*number == 1) && self.waits.contains(&thread) == (*number == 3)
+        let lists = [(1, &self.line), (2, &self.delays), (3, &self.waits)];
+        let each_in_one = lists.into_iter().all(|(number, list)| {
+            let mut conditions = self.conditions.iter().zip(0..);
+            no_repeats(list) && conditions.all(|(condition, thread)| list.contains(&thread) == (condition.0 == number))
         });
-        each_in_one && self.conditions.len() == self.threads && no_repeats(&held) && no_repeats(&self.line) && no_repeats(&self.waits)
+        each_in_one && self.conditions.len() == self.threads && no_repeats(&held)
     }
 }
 
@@ -177,6 +196,10 @@ fn hold((section, thread): (u16, u16), sections: usize, threads: usize) -> Optio
         section: below(section, sections)?,
         thread: below(thread, threads)?,
     })
+}
+
+fn thread_number(thread: Option<usize>) -> u16 {
+    thread.map_or(NOBODY, |thread| thread as u16)
 }
 
 fn below(number: u16, bound: usize) -> Option<usize> {

@@ -6,6 +6,7 @@
 
 mod bench;
 mod check;
+mod delays;
 mod fault;
 mod lent;
 mod live;

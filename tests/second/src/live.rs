@@ -1,5 +1,6 @@
 //! The step for live use: one record at a time on a state that is lent to it.
 
+use crate::delays::Delays;
 use crate::fault::Fault;
 use crate::lent::{Parts, LAST_TICK};
 use crate::machine::Machine;
@@ -23,6 +24,8 @@ pub enum Reply {
 pub struct Watch {
     parts: Parts,
     fault: Fault,
+    /// What `DelayAgainKeepsPlace` remembers of threads not asleep; nothing else asks for it.
+    places: Option<Delays>,
 }
 
 impl Watch {
@@ -33,10 +36,7 @@ impl Watch {
 
     pub fn new_with(fault: Fault, plan: &[u8]) -> Result<Watch, u8> {
         let plan = Plan::read(plan, fault)?;
-        Ok(Watch {
-            parts: Parts::of(&Machine::new(plan, fault), 0),
-            fault,
-        })
+        Ok(Watch::from_parts_with(fault, Parts::of(&Machine::new(plan, fault), 0)))
     }
 
     /// Any numbers at all; the step asks question 12 of them.
@@ -45,7 +45,8 @@ impl Watch {
     }
 
     pub fn from_parts_with(fault: Fault, parts: Parts) -> Watch {
-        Watch { parts, fault }
+        let places = None;
+        Watch { parts, fault, places }
     }
 
     pub fn parts(&self) -> &Parts {
@@ -57,6 +58,9 @@ impl Watch {
         let Some(mut machine) = self.parts.machine(self.fault) else {
             return Reply::Refused(12);
         };
+        if let Some(places) = &self.places {
+            machine.delays = places.clone();
+        }
         let record = match Record::from_numbers(kind, operand, &machine.plan) {
             Ok(record) => record,
             Err(question) => return Reply::Refused(question),
@@ -73,6 +77,7 @@ impl Watch {
         }
         machine.advance(record);
         self.parts = Parts::of(&machine, 0);
+        self.places = (self.fault == Fault::DelayAgainKeepsPlace).then_some(machine.delays);
         Reply::Clean { due: machine.due.len() }
     }
 }

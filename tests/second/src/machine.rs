@@ -4,6 +4,7 @@
 
 use std::collections::VecDeque;
 
+use crate::delays::Delays;
 use crate::fault::Fault;
 use crate::plan::Plan;
 use crate::records::{Call, Record, Report};
@@ -37,6 +38,8 @@ pub struct Machine {
     pub holds: Vec<Hold>,
     /// In order of their Take.
     pub waits: Vec<usize>,
+    /// They put the sleeping threads in order.
+    pub delays: Delays,
     pub timers: Timers,
     /// The thread of the latest Switch that was given; a Switch still due is in `due`.
     pub given: Option<usize>,
@@ -53,6 +56,7 @@ impl Machine {
             line: VecDeque::new(),
             holds: Vec::new(),
             waits: Vec::new(),
+            delays: Delays::none(plan.threads()),
             timers: Timers::default(),
             given: None,
             due: VecDeque::new(),
@@ -126,6 +130,14 @@ impl Machine {
     /// The section that the thread took last of those it still holds.
     pub fn taken_last(&self, thread: usize) -> Option<usize> {
         self.holds.iter().rev().find(|hold| hold.thread == thread).map(|hold| hold.section)
+    }
+
+    /// The sleeping threads in order of their Delay calls.
+    pub fn sleepers(&self) -> Vec<usize> {
+        let asleep = |thread: &usize| matches!(self.conditions[*thread], Condition::Asleep(_));
+        let mut sleepers: Vec<usize> = (0..self.plan.threads()).filter(asleep).collect();
+        sleepers.sort_unstable_by_key(|thread| self.delays.number(*thread));
+        sleepers
     }
 
     /// Advances by a record that breaks no rule.
@@ -210,11 +222,12 @@ impl Machine {
     }
 
     fn wake_sleepers(&mut self) {
-        let mut woken: Vec<usize> = (0..self.plan.threads())
-            .filter(|thread| self.conditions[*thread] == Condition::Asleep(self.tick))
-            .collect();
-        if self.fault == Fault::SleepersOrder {
-            woken.reverse();
+        let mut woken = self.sleepers();
+        woken.retain(|thread| self.conditions[*thread] == Condition::Asleep(self.tick));
+        match self.fault {
+            Fault::SleepersByNumber => woken.sort_unstable(),
+            Fault::LatestDelayFirst => woken.reverse(),
+            _ => {}
         }
         for thread in woken {
             self.join_line(thread, self.fault == Fault::WokenAtFront);
@@ -240,6 +253,7 @@ impl Machine {
             until -= 1;
         }
         self.leave_line(caller, Condition::Asleep(until));
+        self.delays.make(caller, self.fault);
     }
 
     fn relinquish(&mut self, caller: usize) {

@@ -1,8 +1,10 @@
 //! Random runs: check, bench and live step say the same, and demand 3 holds of them.
 
 mod common;
+mod lists;
 
-use common::{bytes, calls_only, numbers, random_plan, random_run, Random};
+use common::{numbers, random_plan, random_run, Random};
+use lists::{bytes, calls_only};
 use second::{bench, bench_with, check, promise, promise_with, Fault, Reply, Verdict, Watch};
 
 #[test]

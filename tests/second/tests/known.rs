@@ -1,4 +1,4 @@
-//! Demand 3 on document 01's known runs.
+//! Demand 3 on known runs of documents 01 and 02.
 
 use second::promise;
 
@@ -40,12 +40,17 @@ const P13: &str = "Create 0; Ready 0; Switch 0; Take 0; Won 0; Create 1; Ready 1
     Won 2; Ready 2; Switch 2; Give 0; Won 1; Ready 1; Take 0; Lost 2; Switch 1; Give 0; Won 2; \
     Ready 2; Switch 2";
 
+/// Both are due at tick number 2, and 1 delayed first.
+const P14: &str = "Create 1; Ready 1; Switch 1; Create 0; Ready 0; Delay 1; Switch 0; Delay 1; Switch nobody; Tick; Tick; Ready 1; \
+    Ready 0; Switch 1";
+
 #[test]
 fn known_runs_keep_the_promise_at_every_length() {
     let run_a: &[u8] = &[3, 1, 1, 2, 3, 1, 0, 0, 0, 1, 0];
     let p4: &[u8] = &[1, 0, 1, 0, 0];
     let p13: &[u8] = &[3, 1, 1, 2, 3, 1, 0, 1, 0, 1, 0];
-    for (plan, text, length) in [(run_a, RUN_A, 17), (p4, P4, 9), (p13, P13, 31)] {
+    let p14: &[u8] = &[2, 0, 1, 1, 0, 0, 0, 0];
+    for (plan, text, length) in [(run_a, RUN_A, 17), (p4, P4, 9), (p13, P13, 31), (p14, P14, 14)] {
         let records = records(text);
         assert_eq!(records.len(), length);
         for cut in 0..=length {

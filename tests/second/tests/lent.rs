@@ -15,6 +15,7 @@ fn good() -> Parts {
         line: vec![0],
         holds: vec![(0, 0)],
         waits: vec![1],
+        delays: vec![2],
         timers: [(0, 0), (0, 0), (9, 0), (0, 0), (0, 0), (8, 3), (0, 0), (0, 0)],
         arming: (0, 0, 0),
         given: 0,
@@ -34,9 +35,24 @@ fn reply(change: impl FnOnce(&mut Parts), kind: u8, operand: u16) -> Reply {
     reply
 }
 
-/// A change of the good state after which every step, even of kind 0, answers 12.
-fn is_12(change: impl FnOnce(&mut Parts)) {
-    assert_eq!(reply(change, 0, 0), Reply::Refused(12));
+/// A change of the good state after which every step, even of kind 0, answers 12. With a report due the change alone decides: who was last
+/// reported is not asked then.
+fn is_12(change: impl Fn(&mut Parts)) {
+    assert_eq!(reply(&change, 0, 0), Reply::Refused(12));
+    assert_eq!(reply(with_a_report_due(change), 0, 0), Reply::Refused(12));
+}
+
+/// A change of the good state that answers 12 with nothing due, and passes with a report due.
+fn is_12_with_nothing_due(change: impl Fn(&mut Parts)) {
+    assert_eq!(reply(&change, 0, 0), Reply::Refused(12));
+    assert_eq!(reply(with_a_report_due(change), 0, 0), Reply::Refused(7));
+}
+
+fn with_a_report_due(change: impl Fn(&mut Parts)) -> impl Fn(&mut Parts) {
+    move |parts| {
+        parts.due = vec![(16, 0)];
+        change(parts);
+    }
 }
 
 /// A change of the good state that question 12 lets pass: kind 0 then answers 7.
@@ -64,7 +80,6 @@ fn numbers_out_of_range() {
     is_12(|p| p.holds.push((1, 4)));
     is_12(|p| p.conditions[1].1 = 2);
     is_12(|p| p.given = 4);
-    passes(|p| p.given = NOBODY);
     is_12(|p| p.stored = 20);
     is_12(|p| p.stored = 33);
     passes(|p| p.stored = 21);
@@ -125,6 +140,59 @@ fn lists_and_conditions() {
 }
 
 #[test]
+fn the_order_of_delays_names_each_sleeper_just_once_and_nobody_else() {
+    is_12(|p| p.delays.clear());
+    is_12(|p| p.delays.push(2));
+    for other in [0, 1, 3, 4, 15] {
+        is_12(|p| p.delays.push(other));
+        is_12(|p| p.delays.insert(0, other));
+        is_12(|p| p.delays = vec![other]);
+    }
+    // Two sleepers, in either order.
+    let two = |p: &mut Parts, order: &[u16]| (p.conditions[3], p.delays) = ((2, 9), order.to_vec());
+    passes(|p| two(p, &[2, 3]));
+    passes(|p| two(p, &[3, 2]));
+    for order in [&[][..], &[2], &[3], &[2, 2], &[3, 3], &[2, 3, 2], &[2, 3, 3], &[2, 0]] {
+        is_12(|p| two(p, order));
+    }
+}
+
+#[test]
+fn with_nothing_due_the_chosen_thread_is_the_last_reported() {
+    for other in [1, 2, 3, NOBODY] {
+        is_12_with_nothing_due(|p| p.given = other);
+    }
+    // Thread 3 of base 4 is ready too, and chosen.
+    let joined = |p: &mut Parts, given| (p.conditions[3], p.line, p.given) = ((1, 0), vec![0, 3], given);
+    is_12_with_nothing_due(|p| joined(p, 0));
+    passes(|p| joined(p, 3));
+    // With base 1 and in front of 0 it is not: 0 is raised to 2.
+    let equal = |p: &mut Parts, given| (p.conditions[3], p.line, p.bases[3], p.given) = ((1, 0), vec![3, 0], 1, given);
+    is_12_with_nothing_due(|p| equal(p, 3));
+    passes(|p| equal(p, 0));
+    // Nobody is ready.
+    let empty = |p: &mut Parts, given| (p.conditions[0], p.line, p.given) = ((0, 0), Vec::new(), given);
+    is_12_with_nothing_due(|p| empty(p, 0));
+    passes(|p| empty(p, NOBODY));
+}
+
+#[test]
+fn a_step_may_leave_a_state_that_answers_12() {
+    // The last report is given, no Switch is due, and 0 is chosen though 2 was last reported.
+    let mut watch = Watch::from_parts(Parts {
+        given: 2,
+        due: vec![(16, 0)],
+        ..good()
+    });
+    assert_eq!(watch.step(16, 0), Reply::Clean { due: 0 });
+    let left = watch.parts().clone();
+    for (kind, operand) in [(3, 0), (7, 0), (17, 0), (0, 0)] {
+        assert_eq!(watch.step(kind, operand), Reply::Refused(12));
+        assert_eq!(*watch.parts(), left);
+    }
+}
+
+#[test]
 fn seven_eight_and_thirteen_in_order() {
     assert_eq!(reply(|_| {}, 12, 0), Reply::Refused(7));
     assert_eq!(reply(|_| {}, 1, 4), Reply::Refused(8));
@@ -162,7 +230,10 @@ fn the_last_ticks() {
     assert_eq!(watch.step(16, 2), Reply::Clean { due: 1 });
     assert_eq!(watch.step(17, 2), Reply::Clean { due: 0 });
     assert_eq!(watch.step(2, 65535), Reply::Clean { due: 1 });
-    assert_eq!(watch.parts().conditions[2], (2, LAST_SLEEPER));
+    assert_eq!(
+        (watch.parts().conditions[2], &watch.parts().delays[..]),
+        ((2, LAST_SLEEPER), &[2][..])
+    );
 }
 
 #[test]
@@ -175,46 +246,46 @@ fn a_due_switch_counts_as_reported() {
     assert_eq!(watch.step(17, 0), Reply::Clean { due: 0 });
     assert_eq!(watch.parts().given, 0);
     assert_eq!(watch.step(3, 0), Reply::Clean { due: 0 });
-    // With a stored thread that is not the chosen one, the next call owes the Switch.
-    assert_eq!(reply(|p| p.given = 2, 3, 0), Reply::Clean { due: 1 });
 }
 
-/// Threads 0 and 1 hold sections of equal ceiling, which no clean dump leads to.
+/// Threads 0 and 1 hold sections of equal ceiling, which no clean dump leads to, and 2 waits. Thread 3, above them all, runs.
 fn tie() -> Parts {
     Parts {
-        threads: 3,
+        threads: 4,
         sections: 2,
-        bases: vec![1, 1, 2],
-        needs: vec![1, 2, 3],
-        tick: 0,
-        conditions: vec![(1, 0), (1, 0), (3, 0)],
-        line: vec![0, 1],
+        bases: vec![1, 1, 2, 3],
+        needs: vec![1, 2, 3, 0],
+        conditions: vec![(1, 0), (1, 0), (3, 0), (1, 0)],
+        line: vec![0, 1, 3],
         holds: vec![(0, 0), (1, 1)],
         waits: vec![2],
-        timers: [(0, 0); 8],
-        arming: (0, 0, 0),
-        given: NOBODY,
-        due: Vec::new(),
-        stored: 0,
+        given: 3,
+        ..Parts::default()
     }
 }
 
 #[test]
 fn the_owner_on_a_tie_is_the_one_that_took_later() {
     let mut watch = Watch::from_parts(tie());
-    assert_eq!(watch.step(7, 0), Reply::Clean { due: 1 });
+    assert_eq!(watch.step(4, 0), Reply::Clean { due: 1 });
     assert_eq!(watch.parts().due, vec![(17, 1)]);
     let mut faulty = Watch::from_parts_with(Fault::OwnerTie, tie());
-    assert_eq!(faulty.step(7, 0), Reply::Clean { due: 1 });
+    assert_eq!(faulty.step(4, 0), Reply::Clean { due: 1 });
     assert_eq!(faulty.parts().due, vec![(17, 0)]);
 }
 
 #[test]
 fn the_caller_is_the_chosen_thread() {
-    // Thread 1 is the owner, raised to 2, and so the caller: it may give section 1 only.
-    let mut watch = Watch::from_parts(tie());
+    // Without thread 3, 1 is the caller, the owner raised to 2: it may give section 1 only.
+    let alone = Parts {
+        conditions: vec![(1, 0), (1, 0), (3, 0), (0, 0)],
+        line: vec![0, 1],
+        given: 1,
+        ..tie()
+    };
+    let mut watch = Watch::from_parts(alone.clone());
     assert_eq!(watch.step(6, 0), Reply::Broken(27));
-    let mut watch = Watch::from_parts(tie());
+    let mut watch = Watch::from_parts(alone);
     // Ceiling 2 of section 0 is still held, so thread 2 loses; 0 is the owner now.
     assert_eq!(watch.step(6, 1), Reply::Clean { due: 2 });
     assert_eq!(watch.parts().due, vec![(19, 2), (17, 0)]);

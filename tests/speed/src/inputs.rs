@@ -47,6 +47,7 @@ pub fn all() -> Vec<Input> {
         input("nested", 1.5, regular::nested(LONG)),
         input("relinquish", 1.5, regular::relinquish(LONG)),
         timers(1, LONG),
+        input("sleepers", 1.5, random::sleepers(1, LONG)),
     ]
 }
 
@@ -113,6 +114,19 @@ mod tests {
         assert!(others.iter().all(|kind| share(&input, *kind) > 0.01));
         assert!(share(&input, TICK) > 0.2 && share(&input, EXPIRE) > 0.2 && share(&input, CANCEL) > 0.002);
         assert!(records.iter().any(|record| record.0 == LATE && record.1 > 5));
+    }
+
+    #[test]
+    fn sleepers_share_ticks_in_another_order_than_their_numbers() {
+        let inputs = all();
+        let records = inputs.iter().find(|input| input.name == "sleepers").unwrap().decoded();
+        let woken: Vec<Vec<u16>> = records
+            .split(|record| record.0 == TICK)
+            .map(|behind| behind.iter().filter(|record| record.0 == READY).map(|record| record.1).collect())
+            .collect();
+        let falls = |threads: &&Vec<u16>| threads.windows(2).any(|pair| pair[0] > pair[1]);
+        assert!(woken[1..].iter().filter(falls).count() > 800);
+        assert!(woken[1..].iter().filter(|threads| threads.len() > 2).count() > 800);
     }
 
     #[test]

@@ -1,6 +1,9 @@
-//! The known runs of document 01, typed from its text: plan, records, and the verdict that it states.
+//! The known runs of document 01, typed from its text: plan, records, and the verdict that it states. P14 is that of document 02's
+//! item 3, which says in words what happens; its records are worked out by hand.
 #![allow(dead_code)] // each test file uses a part
 
+pub mod sleepers;
+pub mod states;
 pub mod timers;
 
 use beltcairn::kind::{CREATE, DELAY, GIVE, LOST, READY, RELINQUISH, SWITCH, TAKE, TICK, WON, YIELD};
@@ -54,7 +57,7 @@ fn breach(name: &'static str, plan: &[u8], records: &[&[(u8, u16)]], record: u64
     }
 }
 
-fn started(thread: u16) -> [(u8, u16); 3] {
+pub fn started(thread: u16) -> [(u8, u16); 3] {
     [(CREATE, thread), (READY, thread), (SWITCH, thread)]
 }
 
@@ -107,6 +110,7 @@ pub fn known() -> Vec<Run> {
         clean("P10 without its last record", &equal, &[&relinquished], 1),
         clean("P11", &[2, 2, 1, 2, 1, 0, 3, 0], &[&started(0), &p11], 0),
         clean("P13", &[3, 1, 1, 2, 3, 1, 0, 1, 0, 1, 0], p13, 0),
+        clean("P14", &equal, &[&sleepers::p14()], 0),
     ];
     runs.extend(of_one_thread());
     runs

@@ -1,4 +1,4 @@
-//! Inputs drawn by a small generator of numbers: long runs of Ticks, calls of kinds 1 to 7, and timers among such calls.
+//! Inputs drawn by a small generator of numbers: long runs of Ticks, sleepers that share ticks, calls of kinds 1 to 7, and timers among such calls.
 
 use super::Recorder;
 use crate::peer::*;
@@ -61,6 +61,22 @@ pub fn ticks_many(seed: u64, records: usize) -> (Vec<u8>, Vec<u8>) {
             run.must(GIVE, section);
         }
         run.must(DELAY, draw.between(100, 600));
+    }
+    run.finish()
+}
+
+/// Sixteen equal threads that sleep again as soon as they run, for few ticks, so that many are due at one tick.
+pub fn sleepers(seed: u64, records: usize) -> (Vec<u8>, Vec<u8>) {
+    let mut draw = Draw(seed);
+    let mut run = Recorder::new(0, &[(1, 0); 16], records);
+    for thread in 0..16 {
+        run.must(CREATE, thread);
+    }
+    while !run.full() {
+        match run.running() {
+            Some(_) => run.must(DELAY, draw.between(1, 3)),
+            None => run.must(TICK, 0),
+        }
     }
     run.finish()
 }

@@ -1,6 +1,6 @@
 //! What each call does.
 
-use super::machine::{Condition, Hold};
+use super::machine::{Condition, Hold, Queue};
 use super::*;
 
 impl<const TUNED: bool> Machine<TUNED> {
@@ -30,12 +30,15 @@ impl<const TUNED: bool> Machine<TUNED> {
         }
     }
 
-    /// The sleepers whose tick has come. Where there is none the line stays, and so does the chosen thread.
+    /// The sleepers whose tick has come, in order of their Delays. Where there is none the line stays, and so does the chosen thread.
     fn wake(&mut self) {
-        for thread in 0..self.plan.threads {
-            if self.wakes[thread] == self.tick {
-                self.wakes[thread] = u32::MAX;
-                self.arrive(thread as u16);
+        let asleep = std::mem::replace(&mut self.delays, Queue::EMPTY);
+        for &thread in asleep.items() {
+            if self.wakes[thread as usize] == self.tick {
+                self.wakes[thread as usize] = u32::MAX;
+                self.arrive(thread);
+            } else {
+                self.delays.push(thread);
             }
         }
     }
@@ -47,6 +50,7 @@ impl<const TUNED: bool> Machine<TUNED> {
         self.wakes[caller as usize] = until;
         self.conditions[caller as usize] = Condition::Asleep;
         self.line.remove(caller);
+        self.delays.push(caller);
         Ok(())
     }
 

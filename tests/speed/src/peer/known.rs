@@ -1,4 +1,4 @@
-//! The known runs of document 01, P1 to P13, with the verdicts written there, and runs of timers worked out by hand.
+//! The known runs of document 01, P1 to P13, with the verdicts written there, P14 of document 02, and runs of timers worked out by hand.
 
 use super::*;
 
@@ -136,6 +136,18 @@ fn p13_most_urgent_waiter() {
     records.extend([(TAKE, 0), (LOST, 2), (SWITCH, 1)]);
     records.extend([(GIVE, 0), (WON, 2), (READY, 2), (SWITCH, 2)]);
     assert_eq!(judged(&plan(1, &[(1, 1), (2, 1), (3, 1)]), &dump(&records)), clean(31, 0));
+}
+
+#[test]
+fn p14_sleepers_in_order_of_their_delays() {
+    let started = [(CREATE, 1), (READY, 1), (SWITCH, 1), (CREATE, 0), (READY, 0)];
+    let asleep = [(DELAY, 1), (SWITCH, 0), (DELAY, 1), (SWITCH, NOBODY), (TICK, 0), (TICK, 0)];
+    let after = |reports: &[(u8, u16)]| {
+        let records = [&started[..], &asleep, reports].concat();
+        judged(&plan(0, &[(1, 0), (1, 0)]), &dump(&records))
+    };
+    assert_eq!(after(&[(READY, 1), (READY, 0), (SWITCH, 1)]), clean(14, 0));
+    assert_eq!(after(&[(READY, 0), (READY, 1), (SWITCH, 1)]), breach(11, 30));
 }
 
 /// Behind seven Ticks, records 3 to 9.

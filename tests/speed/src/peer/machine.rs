@@ -3,7 +3,7 @@
 use super::timers::Timers;
 use super::*;
 
-/// Threads in order: the line, or the waits.
+/// Threads in order: the line, the waits, or the sleepers.
 #[derive(Clone, Copy)]
 pub struct Queue {
     items: [u16; 16],
@@ -101,6 +101,8 @@ pub struct Machine<const TUNED: bool> {
     pub line: Queue,
     pub holds: Holds,
     pub waits: Queue,
+    /// The sleepers in order of their Delays.
+    pub delays: Queue,
     pub reported: u16,
     pub timers: Timers,
     reports: [Report; ROOM],
@@ -119,6 +121,7 @@ impl<const TUNED: bool> Machine<TUNED> {
             line: Queue::EMPTY,
             holds: Holds::EMPTY,
             waits: Queue::EMPTY,
+            delays: Queue::EMPTY,
             reported: NOBODY,
             timers: Timers::UNARMED,
             reports: [Report { kind: 0, operand: 0 }; ROOM],

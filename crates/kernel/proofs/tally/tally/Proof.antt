@@ -21,11 +21,11 @@ use Rattle.kernel.proofs.tally.tally.Statement.{statement}
 use Rattle.kernel.proofs.tally.tally.Tie as tie
 
 abbrev Inv-loop : tie.InvT-loop
-Inv-loop ceilings list n first who₀ records₀ k₀ running₀ s who records k running =
-    (k ≤ n) × (done : List Record) × (records ≡ length done) × CallsMade (first .machine .plan) list k s who done × (running ≡ runningPlace (recordCount list) k)
+Inv-loop ceilings list n first records₀ k₀ running₀ s records k running =
+    (k ≤ n) × (done : List Record) × (records ≡ length done) × CallsMade (first .machine .plan) list k s done × (running ≡ runningPlace (recordCount list) k)
 
 abbrev μ-loop : tie.MeasureT-loop
-μ-loop ceilings list n first who₀ records₀ k₀ running₀ s who records k running = n - k
+μ-loop ceilings list n first records₀ k₀ running₀ s records k running = n - k
 
 fresh-requires : tie.Need-fresh-requires Inv-loop μ-loop
 fresh-requires c κs = tt

@@ -19,12 +19,12 @@ use Rattle.kernel.proofs.write.write.Statement.{statement}
 use Rattle.kernel.proofs.write.write.Tie as tie
 
 abbrev Inv-loop : tie.InvT-loop
-Inv-loop ceilings list calls before n first who₀ k₀ from₀ i₀ to₀ out s who k from i to =
-    (k ≤ calls) × (done : List Record) × (i ≡ length done) × CallsMade (first .machine .plan) list k s who done × (out ≡ recordsPut 0 (2 + n) done before)
+Inv-loop ceilings list calls before n first k₀ from₀ i₀ to₀ out s k from i to =
+    (k ≤ calls) × (done : List Record) × (i ≡ length done) × CallsMade (first .machine .plan) list k s done × (out ≡ recordsPut 0 (2 + n) done before)
     × (from ≡ runningPlace (recordCount list) k) × (to ≡ 2 + n + 2 * length done)
 
 abbrev μ-loop : tie.MeasureT-loop
-μ-loop ceilings list calls before n first who₀ k₀ from₀ i₀ to₀ out s who k from i to = calls - k
+μ-loop ceilings list calls before n first k₀ from₀ i₀ to₀ out s k from i to = calls - k
 
 cast-out : tie.Need-cast-out Inv-loop μ-loop
 cast-out c = search needs

@@ -2,7 +2,7 @@
 use mathlib.Core.Path.{ap, _∙_}
 use mathlib.Core.List.{[]}
 use Rattle.lists.specs.Lists.{numbered}
-use Rattle.machine.proofs.Chosen.{chosen-is, chosen-same, queue-positive}
+use Rattle.machine.proofs.Chosen.{chosen-by, chosen-same, queue-positive}
 use Rattle.machine.proofs.Machine.chosen.Statement.{statement}
 use Rattle.machine.proofs.Machine.chosen.Tie as tie
 
@@ -15,7 +15,7 @@ returns : tie.Need-returns
 returns c =
     let s = c .before .before in
     let m = s .args .self in
-    c .chosen-of .ensures ∙ ap numbered (chosen-same (m .plan .bases) (s .args .ceilings .now) (s .pre .listed) ∙ chosen-is m (s .pre .valid) (s .pre .ceilings') [])
+    c .chosen-of .ensures ∙ ap numbered (chosen-same (m .plan .bases) (s .args .ceilings .now) (s .pre .listed) ∙ chosen-by m (s .pre .valid) (s .pre .ceilings') [])
 
 pub chosen-spec : {M : Type 1} → statement M
 chosen-spec = tie.close (tie.spec chosen-of-requires returns)

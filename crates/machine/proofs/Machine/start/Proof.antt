@@ -19,13 +19,16 @@ none-requires-3 c κs = search needs
 none-requires-4 : tie.Need-none-requires-4
 none-requires-4 c κs = search needs
 
+none-requires-5 : tie.Need-none-requires-5
+none-requires-5 c κs = search needs
+
 returns : tie.Need-returns
 returns c =
-    let p = c .before .before .before .before .args .plan in
+    let p = c .before .before .before .before .before .args .plan in
     record {
       plan' = refl;
-      seen = rw (threads-view p, all-dormant (p .threads) (replicate 16 (record { 0 = 0 })), c .before .before .before .none .ensures, c .before .before .none2 .ensures, c .before .none3 .ensures, c .none4 .ensures);
+      seen = rw (threads-view p, all-dormant (p .threads) (replicate 16 (record { 0 = 0 })), c .before .before .before .before .none .ensures, c .before .before .before .none2 .ensures, c .before .before .none3 .ensures, c .before .none4 .ensures, c .none5 .ensures);
     }
 
 pub start-spec : {M : Type 1} → statement M
-start-spec = tie.close (tie.spec none-requires none-requires-2 none-requires-3 none-requires-4 returns)
+start-spec = tie.close (tie.spec none-requires none-requires-2 none-requires-3 none-requires-4 none-requires-5 returns)

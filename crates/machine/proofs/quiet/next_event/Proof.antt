@@ -2,23 +2,23 @@
 use mathlib.Core.Path.{_≡_, ap, sym, _∙_}
 use mathlib.Core.Bool.{Bool, cond}
 use mathlib.Core.List.{List}
-use Prim.Native.Nat.{ℕ, min}
+use Prim.Native.Nat.{min}
 use native.Mathlib.Omega.{arith}
 use Rattle.model.specs.Timers.{isComplete}
+use Rattle.lists.specs.declared.queue.Queue.{Queue}
+use Rattle.lists.specs.Lists.{queued}
 use Rattle.clock.specs.declared.time.Tick.{Tick}
 use Rattle.clock.specs.declared.timers.Timers.{Timers}
 use Rattle.clock.specs.View.{view}
 use Rattle.clock.specs.Contracts.{soonest as soonestExpiry}
-use Rattle.machine.specs.declared.slots.Slots.{Slots}
-use Rattle.machine.specs.View.{conditionsOf}
 use Rattle.machine.specs.Contracts.{soonest, nextEvent}
 use Rattle.machine.proofs.quiet.next_event.Statement.{statement}
 use Rattle.machine.proofs.quiet.next_event.Tie as tie
 
 -- by whether no arming is in progress
-by-arming : (threads : ℕ) (slots : Slots) (wakes : List Tick) (timers : Timers) {b : Bool} → b ≡ isComplete (view timers .arming)
-    → cond b (min (soonest (conditionsOf threads slots wakes)) (soonestExpiry (view timers .slots))) 0 ≡ nextEvent threads slots wakes timers
-by-arming threads slots wakes timers e = ap (λ b. cond b (min (soonest (conditionsOf threads slots wakes)) (soonestExpiry (view timers .slots))) 0) e
+by-arming : (delays : Queue) (wakes : List Tick) (timers : Timers) {b : Bool} → b ≡ isComplete (view timers .arming)
+    → cond b (min (soonest wakes (queued delays)) (soonestExpiry (view timers .slots))) 0 ≡ nextEvent delays wakes timers
+by-arming delays wakes timers e = ap (λ b. cond b (min (soonest wakes (queued delays)) (soonestExpiry (view timers .slots))) 0) e
 
 is-complete-requires : tie.Need-is-complete-requires
 is-complete-requires c κs = tt
@@ -35,7 +35,7 @@ returns c =
     let k = t .before in
     let e = k .before .before in
     let a = e .before .args in
-    omega (arith, c .if2 .taken, k .soonest .ensures, t .soonest2 .ensures, by-arming (a .threads) (a .slots) (a .wakes) (a .timers) (sym (k .before .if1 .taken) ∙ e .is-complete .ensures))
+    omega (arith, c .if2 .taken, k .soonest .ensures, t .soonest2 .ensures, by-arming (a .delays) (a .wakes) (a .timers) (sym (k .before .if1 .taken) ∙ e .is-complete .ensures))
 
 returns-2 : tie.Need-returns-2
 returns-2 c =
@@ -43,10 +43,10 @@ returns-2 c =
     let k = t .before in
     let e = k .before .before in
     let a = e .before .args in
-    omega (arith, c .if2 .left, k .soonest .ensures, t .soonest2 .ensures, by-arming (a .threads) (a .slots) (a .wakes) (a .timers) (sym (k .before .if1 .taken) ∙ e .is-complete .ensures))
+    omega (arith, c .if2 .left, k .soonest .ensures, t .soonest2 .ensures, by-arming (a .delays) (a .wakes) (a .timers) (sym (k .before .if1 .taken) ∙ e .is-complete .ensures))
 
 returns-3 : tie.Need-returns-3
-returns-3 c = let a = c .before .before .args in by-arming (a .threads) (a .slots) (a .wakes) (a .timers) (sym (c .if1 .left) ∙ c .before .is-complete .ensures)
+returns-3 c = let a = c .before .before .args in by-arming (a .delays) (a .wakes) (a .timers) (sym (c .if1 .left) ∙ c .before .is-complete .ensures)
 
 pub next-event-spec : {M : Type 1} → statement M
 next-event-spec = tie.close (tie.spec is-complete-requires soonest-requires soonest-requires-2 returns returns-2 returns-3)

@@ -3,15 +3,14 @@
 -- Each way through the loop is one of the machine's answers.
 use mathlib.Core.Path.{_≡_, refl, ap, sym, subst, _∙_}
 use mathlib.Core.Logic.{⊎-elim}
-use mathlib.Core.Bool.{true, _&&_}
-use Prim.Native.Nat.{ℕ, _-_, _≤_, _<_}
+use Prim.Native.Nat.{_+_, _-_, _≤_, _<_}
 use native.Mathlib.Omega.{arith}
 use borrow.Author.Needs.{needs}
-use lib.Dec.{T, eqb, ltb, eqb→eq, ltb→lt}
+use borrow.Author.Tests.{ltb-true}
+use lib.Dec.{T, eqb→eq}
 use Rattle.model.specs.Records as records
 use Rattle.model.specs.Records.{call}
 use Rattle.model.specs.Rules.{stage, callPlace, inOrder}
-use Rattle.model.proofs.Tests.{from-true, and-left, and-right}
 use Rattle.machine.specs.declared.reporting.Reporting.{Reporting}
 use Rattle.machine.specs.Lists.{reportOf}
 use Rattle.machine.specs.View.{view, shown}
@@ -28,11 +27,11 @@ use Rattle.walk.proofs.walk.walk.Statement.{statement}
 use Rattle.walk.proofs.walk.walk.Tie as tie
 
 abbrev Inv-loop : tie.InvT-loop
-Inv-loop ceilings chosen bytes from place to c₀ i₀ running₀ c i running =
+Inv-loop ceilings bytes from place to c₀ i₀ running₀ c i running =
     (c .rule ≡ 0) × Walking (c₀ .machine .plan) (shown c₀) bytes from to c i × (running ≡ runningPlace (recordCount bytes) i)
 
 abbrev μ-loop : tie.MeasureT-loop
-μ-loop ceilings chosen bytes from place to c₀ i₀ running₀ c i running = to - i
+μ-loop ceilings bytes from place to c₀ i₀ running₀ c i running = to - i
 
 opened-requires : tie.Need-opened-requires Inv-loop μ-loop
 opened-requires c κs = tt
@@ -48,13 +47,13 @@ loop-holds c =
     let a = s .args in
     let e = c .opened .ensures in (
       ap (λ (x : Reporting). x .rule) e,
-      as-opened (a .s) (a .who) e (walk-begins (s .pre .0) e),
+      as-opened (a .s) e (walk-begins (s .pre .0) e),
       s .pre .1,
     )
 
 -- where the loop stands, as a walk from the state that came
 standing : (l : tie.At-loop Inv-loop μ-loop) → (let a = start l .args in Walking (a .s .machine .plan) (view (a .s)) (a .bytes .now) (a .from) (a .to) (l .loop .c) (l .loop .i))
-standing l = let a = start l .args in as-came (a .s) (a .who) (l .before .opened .ensures) (l .loop .inv .1)
+standing l = let a = start l .args in as-came (a .s) (l .before .opened .ensures) (l .loop .inv .1)
 
 entry-at-requires : tie.Need-entry-at-requires Inv-loop μ-loop
 entry-at-requires c κs = let l = c .before in (start l .pre .0 .whole, walk-within (start l .pre .0) (standing l) (c .loop-test .taken), l .loop .inv .2)
@@ -212,9 +211,6 @@ enum-told-4 c = search needs
 unasked-requires : tie.Need-unasked-requires Inv-loop μ-loop
 unasked-requires c κs = tt
 
-both : {a b c d : ℕ} → ltb a b && eqb c d ≡ true → (a < b) × (c ≡ d)
-both {a} {b} {c} {d} e = let t = from-true (ltb a b && eqb c d) e in (ltb→lt a b (and-left (ltb a b) (eqb c d) t), eqb→eq c d (and-right (ltb a b) (eqb c d) t))
-
 is : {old r x : Reporting} {z : records.Record} → r ≡ x → Answers x old z → Answers r old z
 is {old} {z = z} q a = subst (λ r. Answers r old z) (sym q) a
 
@@ -234,8 +230,8 @@ answered j =
     (⊎-elim
     (λ w.
     let t : tie.Then2 Inv-loop μ-loop = record { before = record { before = record { before = o; if1 = w .0 }; struct-known = w .1 }; if2 = w .2 } in
-    let q = both (sym (w .3 .ensures) ∙ w .4 .taken) in
-    is (w .6 ∙ w .5 .ensures) (subst (λ y. Answers (passed old) old y) (sym (is-tick t)) (passed-answers (ticks t) (here e .loop .inv .0) (q .0) (q .1))))
+    let q = ltb-true (old .machine .tick .0 + 1) (old .quiet .0) (sym (w .3 .ensures) ∙ w .4 .taken) in
+    is (w .6 ∙ w .5 .ensures) (subst (λ y. Answers (passed old) old y) (sym (is-tick t)) (passed-answers (ticks t) (here e .loop .inv .0) q)))
     (⊎-elim (λ w. made (record { before = record { before = record { before = record { before = o; if1 = w .0 }; struct-known = w .1 }; if2 = w .2 }; record-of = w .3 }) (ap machine.recordOf (w .5 .given .1)) (w .8) (w .7 .ensures))
     (⊎-elim (λ w. made (record { before = record { before = record { before = record { before = o; if1 = w .0 }; struct-known = w .1 }; if2 = w .2 }; record-of = w .3 }) (ap machine.recordOf (w .5 .given .1)) (w .8) (w .7 .ensures))
     (⊎-elim (λ w. made (record { before = record { before = record { before = record { before = o; if1 = w .0 }; struct-known = w .1 }; if2 = w .2 }; record-of = w .3 }) (ap machine.recordOf (w .5 .given .1)) (w .7) (w .6 .ensures))
@@ -273,7 +269,7 @@ loop-again c =
     let l = here e in
     let a = start l .args in (
       c .if4 .left,
-      as-opened (a .s) (a .who) (l .before .opened .ensures) (walk-moves (start l .pre .0) (standing l) (e .before .loop-test .taken) (answered j) (c .if4 .left)),
+      as-opened (a .s) (l .before .opened .ensures) (walk-moves (start l .pre .0) (standing l) (e .before .loop-test .taken) (answered j) (c .if4 .left)),
       running-next (recordCount (a .bytes .now)) (l .loop .i) (l .loop .inv .2),
     )
 
@@ -293,11 +289,11 @@ returns c =
     let s = c .closed .result in
     ⊎-elim
     (λ w.
-    subst (λ (x : Reporting). WalkEnds (record { state = s; chosen = x .chosen; at = l .loop .i; rule = x .rule }) (a .s) (a .bytes .now) (a .from) (a .to)) (sym (w .1))
+    subst (λ (x : Reporting). WalkEnds (record { state = s; at = l .loop .i; rule = x .rule }) (a .s) (a .bytes .now) (a .from) (a .to)) (sym (w .1))
     (walk-ends (start l .pre .0) (standing l) (l .loop .inv .0) (w .0 .left) (subst (Closes s) (w .1) (c .closed .ensures))))
     (λ w.
     let j : tie.Joined1 Inv-loop μ-loop = record { before = record { before = record { before = record { before = l; loop-test = w .0 }; entry-at = w .1 }; hears = w .2 }; if1 = w .3 } in
-    subst (λ (x : Reporting). WalkEnds (record { state = s; chosen = x .chosen; at = l .loop .i; rule = x .rule }) (a .s) (a .bytes .now) (a .from) (a .to)) (sym (w .6))
+    subst (λ (x : Reporting). WalkEnds (record { state = s; at = l .loop .i; rule = x .rule }) (a .s) (a .bytes .now) (a .from) (a .to)) (sym (w .6))
     (walk-breaks (start l .pre .0) (standing l) (w .0 .taken) (answered j) (w .5 .taken) (subst (Closes s) (w .6) (c .closed .ensures))))
     (f .loop-test .came)
 

@@ -72,7 +72,7 @@ made c =
           alike refl
           (ap (λ (k : Slots). conditionsOf (m .plan .threads) k (m .wakes)) (w .1 .ensures) ∙ placed-seen (m .plan .threads) (m .slots) (m .wakes) (s .args .thread) 1 (omega arith))
           (w .2 .ensures)
-          refl refl refl
+          refl refl refl refl
           (told (c .making .ensures) (w .5) (w .3 .ensures))
           refl;
     }))

@@ -1,4 +1,4 @@
--- `delay` meets its contract: the caller sleeps until the wait is over, and is in no queue.
+-- `delay` meets its contract: the caller sleeps until the wait is over, last in the order of Delays, and is not in the queue.
 use mathlib.Core.Path.{_≡_, refl, ap, sym, _∙_}
 use mathlib.Core.Logic.{⊎-elim}
 use mathlib.Core.List.{[]}
@@ -18,7 +18,7 @@ use Rattle.machine.proofs.Admitted.{Asked, Runs, Makes, admits, refuses
 use Rattle.machine.proofs.Asking.{delay-rule, delays}
 use Rattle.machine.proofs.Facts.{facts}
 use Rattle.machine.proofs.Sized.{slept-size}
-use Rattle.machine.proofs.Room.{caller-fits}
+use Rattle.machine.proofs.Room.{caller-fits, delays-room}
 use Rattle.machine.proofs.Chosen.{listed}
 use Rattle.machine.proofs.Views.{sleeps-seen}
 use Rattle.machine.proofs.Meets.{alike}
@@ -43,7 +43,7 @@ next-requires : tie.Need-next-requires
 next-requires c κs = let a = c .before .before .before .before .pre in omega (arith, c .plus .ensures, facts (caller-asked a .formed) .tick, short-wait a)
 
 -- where no rule is broken the caller is a thread
-fits : (c : tie.Then1) → c .before .before .before .args .self .chosen < 16
+fits : (c : tie.Then1) → c .before .before .before .args .self .machine .reported < 16
 fits c =
     let k = c .before in
     let s = k .before .before in
@@ -64,6 +64,14 @@ array-set-from-wakes c = fits (c .before .before .before .before)
 without-requires : tie.Need-without-requires
 without-requires c κs = listed (facts (caller-asked (c .before .before .before .before .before .before .before .pre) .formed)) .counts .queue'
 
+push-requires : tie.Need-push-requires
+push-requires c κs =
+    let t = c .before .before .before .before .before in
+    let k = t .before in
+    let s = k .before .before in
+    let r = admitted (caller-asked (s .pre)) (s .args .wait .0) (k .free-rule .ensures) (t .if1 .taken) in
+    (delays-room r, caller-fits r)
+
 abbrev start : tie.Joined1 → tie.Start
 start c = c .before .before .before
 
@@ -74,14 +82,14 @@ made c none' =
     let k = c .before in
     let s = start c in
     let m = s .args .self .machine in
-    let x = s .args .self .chosen in
+    let x = s .args .self .machine .reported in
     let n = s .args .wait .0 in
     let a = caller-asked (s .pre) in
     let e = k .free-rule .ensures ∙ delay-rule a n in
     ⊎-elim
     (λ w.
     let r = admitted a n (k .free-rule .ensures) (w .0 .taken) in
-    admits e (by r (λ y. delay y n)) (w .0 .taken) (w .6) refl
+    admits e (by r (λ y. delay y n)) (w .0 .taken) (w .7) refl
     (record {
       plan' = refl;
       seen =
@@ -90,7 +98,9 @@ made c none' =
           ∙ sleeps-seen (m .plan .threads) (m .slots) (m .wakes) x (w .2 .result) (omega (arith, caller-fits r, slept-size (s .args .self) (s .good .0)))
           ∙ ap (λ u. set (conditionsOf (m .plan .threads) (m .slots) (m .wakes)) x (asleep u)) (w .2 .ensures ∙ ap (λ u. u + 1) (w .1 .ensures)))
           (w .5 .ensures)
-          refl refl refl
+          refl refl
+          (w .6 .ensures)
+          refl
           none'
           refl;
     }))
@@ -132,6 +142,7 @@ delay-spec =
     mul-wakes
     array-set-from-wakes
     without-requires
+    push-requires
     none-requires
     making-requires
     chosen-requires

@@ -58,9 +58,9 @@ made c none' =
       plan' = refl;
       seen =
           alike refl
-          (ap (λ (k : Slots). conditionsOf (m .plan .threads) k (m .wakes)) (w .1 .ensures) ∙ placed-seen (m .plan .threads) (m .slots) (m .wakes) (s .args .self .chosen) 0 (omega arith))
+          (ap (λ (k : Slots). conditionsOf (m .plan .threads) k (m .wakes)) (w .1 .ensures) ∙ placed-seen (m .plan .threads) (m .slots) (m .wakes) (s .args .self .machine .reported) 0 (omega arith))
           (w .2 .ensures)
-          refl refl refl
+          refl refl refl refl
           none'
           refl;
     }))

@@ -122,14 +122,14 @@ abbrev start : tie.After-give-rule → tie.Start
 start c = c .before .before .before .before
 
 -- where no rule is broken, what the rules of Give say holds
-granted : (c : tie.Then1) → (let s = start (c .before) in Gives (s .args .self .machine) (s .args .self .chosen) (s .args .section))
+granted : (c : tie.Then1) → (let s = start (c .before) in Gives (s .args .self .machine) (s .args .self .machine .reported) (s .args .section))
 granted c = let a = give-asked (start (c .before) .pre) in gives a (sym (give-rule a) ∙ sym (c .before .give-rule .ensures) ∙ c .if1 .taken)
 
 without-requires : tie.Need-without-requires
 without-requires c κs =
     let s = start (c .before) in
     let f = known s in
-    (listed f .counts .holds', held-once (s .args .section) (s .args .self .chosen) (held (s .args .self .machine .holds)) (f .heldOnce))
+    (listed f .counts .holds', held-once (s .args .section) (s .args .self .machine .reported) (held (s .args .self .machine .holds)) (f .heldOnce))
 
 -- the hold that ended leaves room for another
 left-room : (c : tie.After-without) → c .without .result .count < 16
@@ -194,7 +194,7 @@ made c =
     let r = j .before in
     let s = start r in
     let m = s .args .self .machine in
-    let x = s .args .self .chosen in
+    let x = s .args .self .machine .reported in
     let n = s .args .section in
     let a = give-asked (s .pre) in
     let f = known s in
@@ -222,7 +222,7 @@ made c =
           (w .5 .ensures)
           (w .2 .ensures ∙ ap₂ (λ (k : ℕ) (hs : List Hold). hold k t ∷ hs) (w .1 .ensures ∙ wants-is m f t (e .0) d) left)
           (w .3 .ensures)
-          refl
+          refl refl
           (told (c .making .ensures) (v .5 ∙ w .8) (w .6 .ensures))
           refl);
     }))
@@ -235,11 +235,11 @@ made c =
       seen =
           lost-seen (planOf m) x n (idle m) t o
           (tested m (s .args .ceilings .now) f (s .pre .asks .ceilings') t o left (v .2 .result .free) false (e .1) (w .0 .left))
-          (alike refl refl refl left refl refl (told (c .making .ensures) (v .5 ∙ w .4) (w .2 .ensures)) refl);
+          (alike refl refl refl left refl refl refl (told (c .making .ensures) (v .5 ∙ w .4) (w .2 .ensures)) refl);
     }))
     (λ w.
     rw (w .2, w .4)
-    (record { plan' = refl; seen = none-seen (planOf m) x n (idle m) (nobody m f t (e .0) (w .1 .left)) (alike refl refl refl left refl refl (told (c .making .ensures) (v .5 ∙ w .3) none') refl) })))
+    (record { plan' = refl; seen = none-seen (planOf m) x n (idle m) (nobody m f t (e .0) (w .1 .left)) (alike refl refl refl left refl refl refl (told (c .making .ensures) (v .5 ∙ w .3) none') refl) })))
     (v .3 .came)))
     (λ v. refuses q (v .0 .left) (v .1) refl (told (c .making .ensures) (v .2) none'))
     (j .if1 .came)

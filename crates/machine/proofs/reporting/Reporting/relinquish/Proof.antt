@@ -93,7 +93,7 @@ made c =
     let k = j .before in
     let s = start j in
     let m = s .args .self .machine in
-    let x = s .args .self .chosen in
+    let x = s .args .self .machine .reported in
     let a = caller-asked (s .pre) in
     let e = k .run-rule .ensures ∙ relinquish-rule a in
     let none' = k .before .none .ensures in
@@ -107,7 +107,7 @@ made c =
       seen =
           alike refl refl
           (w .5 .ensures ∙ ap (λ l. l ++ (x ∷ [])) (w .4 .ensures))
-          refl refl refl
+          refl refl refl refl
           (told (c .making .ensures) (w .8) (w .6 .ensures))
           refl;
     }))
@@ -116,7 +116,7 @@ made c =
     let g = admitted a (k .run-rule .ensures) (w .0 .taken) in
     let t = tested a (s .args .ceilings .now) (s .pre .asks .ceilings') (w .2 .result) false (caller-known g) (w .2 .ensures) (w .3 .left) in
     admits e (by g (relinquish (planOf m)) ∙ stays (planOf m) x (idle m) t) (w .0 .taken) (w .4) refl
-    (record { plan' = refl; seen = alike refl refl refl refl refl refl (told (c .making .ensures) (w .5) none') refl }))
+    (record { plan' = refl; seen = alike refl refl refl refl refl refl refl (told (c .making .ensures) (w .5) none') refl }))
     (λ w. refuses e (w .0 .left) (w .1) refl (told (c .making .ensures) (w .2) none')))
     (j .if1 .came)
 

@@ -68,7 +68,7 @@ known : (s : tie.Start) → Facts (s .args .self .machine)
 known s = facts (take-asked (s .pre) .asked .formed)
 
 -- where no rule is broken, what the rules of Take say holds
-granted : (c : tie.Then1) → (let s = start (c .before) in Takes (s .args .self .machine) (s .args .self .chosen) (s .args .section))
+granted : (c : tie.Then1) → (let s = start (c .before) in Takes (s .args .self .machine) (s .args .self .machine .reported) (s .args .section))
 granted c = let a = take-asked (start (c .before) .pre) in takes a (sym (take-rule a) ∙ sym (c .before .take-rule .ensures) ∙ c .if1 .taken)
 
 base-requires : tie.Need-base-requires
@@ -83,7 +83,7 @@ push-requires c κs =
     let b = k .before in
     let s = start (b .before .before) in
     let m = s .args .self .machine in
-    let x = s .args .self .chosen in
+    let x = s .args .self .machine .reported in
     let g = granted (b .before) in (
       take-room g
           (from-true (aboveAll (planOf m) x (heldByOthers x (held (m .holds))))
@@ -118,7 +118,7 @@ made c =
     let r = j .before in
     let s = start r in
     let m = s .args .self .machine in
-    let x = s .args .self .chosen in
+    let x = s .args .self .machine .reported in
     let n = s .args .section in
     let a = take-asked (s .pre) in
     let e = r .take-rule .ensures ∙ take-rule a in
@@ -131,7 +131,7 @@ made c =
       seen =
           won-seen (planOf m) x n (idle m)
           (above (w .1 .result) (w .2 .result) true (w .1 .ensures) (w .2 .ensures) (w .3 .taken))
-          (alike refl refl refl (w .4 .ensures) refl refl (told (c .making .ensures) (w .7) (w .5 .ensures)) refl);
+          (alike refl refl refl (w .4 .ensures) refl refl refl (told (c .making .ensures) (w .7) (w .5 .ensures)) refl);
     }))
     (⊎-elim
     (λ w.
@@ -146,7 +146,7 @@ made c =
           (w .4 .ensures)
           refl
           (w .6 .ensures)
-          refl
+          refl refl
           (told (c .making .ensures) (w .9) (w .7 .ensures))
           refl);
     }))

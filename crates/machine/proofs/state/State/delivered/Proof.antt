@@ -37,7 +37,7 @@ add-t8 c =
 
 -- the machine with this thread reported
 abbrev told : Machine → ℕ → Machine
-told m n = record { plan = m .plan; tick = m .tick; slots = m .slots; wakes = m .wakes; queue = m .queue; holds = m .holds; waits = m .waits; reported = n; timers = m .timers }
+told m n = record { plan = m .plan; tick = m .tick; slots = m .slots; wakes = m .wakes; queue = m .queue; holds = m .holds; waits = m .waits; delays = m .delays; reported = n; timers = m .timers }
 
 -- with one more report given it is what the model delivers
 delivers : (s : State) (r : Report) (n : ℕ) {m : Machine} → m ≡ told (s .machine) n → threadOf n ≡ switchedTo (threadOf (s .machine .reported)) (reportOf r)
@@ -45,7 +45,7 @@ delivers : (s : State) (r : Report) (n : ℕ) {m : Machine} → m ≡ told (s .m
 delivers s r n e q =
     record {
       plan' = ap (λ (m : Machine). m .plan) e;
-      seen = ap (λ m. viewed m (drop (s .given + 1) (owed (s .due)))) e ∙ alike refl refl refl refl refl q (drop-next (s .given) (owed (s .due))) refl;
+      seen = ap (λ m. viewed m (drop (s .given + 1) (owed (s .due)))) e ∙ alike refl refl refl refl refl refl q (drop-next (s .given) (owed (s .due))) refl;
     }
 
 -- the low byte of a Switch that is due is the thread that it names
@@ -53,7 +53,7 @@ low-byte : (s : State) (r : Report) → Owes s → FirstDue r s → r .kind ≡ 
 low-byte s r o f k =
     let p = planOf (s .machine) in
     let w = well-formed p (view s) (sized (s .machine)) (o .formed') in
-    names-one r p (omega (arith, threads-view (s .machine .plan), valid-fits (s .machine .plan) (w .valid) .threads)) (w .known (reportOf r) (subst (λ l. Mem (reportOf r) l) (sym (f .first)) (here refl))) k
+    names-one r p (omega (arith, threads-view (s .machine .plan), valid-fits (s .machine .plan) (w .standing .valid) .threads)) (w .known (reportOf r) (subst (λ l. Mem (reportOf r) l) (sym (f .first)) (here refl))) k
 
 returns : tie.Need-returns
 returns c =

@@ -1,0 +1,53 @@
+-- A Tick on a state in which nothing is due, and at whose next tick number nothing happens, moves the tick number alone.
+use mathlib.Core.Path.{_≡_, refl, ap, sym, _∙_}
+use mathlib.Core.Logic.{inl}
+use mathlib.Core.Bool.{true}
+use mathlib.Core.List.{map}
+use Prim.Native.Nat.{_+_, _<_}
+use native.Mathlib.Omega.{arith}
+use lib.Dec.{T, leb, ltb, leb→le, ltb→lt}
+use Rattle.model.specs.Searches.{upTo}
+use Rattle.model.specs.Plan.{ceiling}
+use Rattle.model.specs.Records.{Tick, call}
+use Rattle.model.specs.State as state
+use Rattle.model.specs.Runs.{moved, step}
+use Rattle.model.specs.Formed.{lastTick, formed}
+use Rattle.model.proofs.Tests.{from-true, and-left, and-right}
+use Rattle.machine.specs.declared.state.State.{State}
+use Rattle.machine.specs.declared.reporting.Reporting.{Reporting}
+use Rattle.machine.specs.View.{planOf, view, reportAt, shown}
+use Rattle.machine.specs.Contracts.{nextEventOf, opened, later, still}
+use Rattle.machine.specs.Calls.{Calls}
+use Rattle.machine.proofs.Facts.{facts}
+use Rattle.machine.proofs.Owing.{unowed}
+use Rattle.machine.proofs.Opening.{opened-shown}
+use Rattle.machine.proofs.Quieted.{next-quiet}
+use Rattle.machine.proofs.Outcomes.{passed-answers}
+use Rattle.machine.proofs.Judged.{answers-moved}
+
+module _ (s : State) (f : T (formed (planOf (s .machine)) (view s))) (room : s .machine .tick .0 < lastTick) (e : still s ≡ true) where
+  -- the state opened, with what happens next
+  abbrev quieted : Reporting
+  quieted =
+      let c = opened s in
+      record { machine = c .machine; reports = c .reports; count = c .count; due = c .due; given = c .given; chosen = c .chosen; quiet = record { 0 = nextEventOf (s .machine) }; rule = c .rule }
+
+  both : T (leb (s .due .count) (s .given)) × T (ltb (s .machine .tick .0 + 1) (nextEventOf (s .machine)))
+  both = let t = from-true (still s) e in (and-left (leb (s .due .count) (s .given)) _ t, and-right (leb (s .due .count) (s .given)) _ t)
+
+  below : s .machine .tick .0 + 1 < nextEventOf (s .machine)
+  below = ltb→lt (s .machine .tick .0 + 1) (nextEventOf (s .machine)) (both .1)
+
+  -- before it no arming is in progress; no thread moves, so the ceilings of the plan are asked for, and none need be passed
+  ticks : Calls quieted (map (ceiling (planOf (s .machine))) (upTo 16)) Tick
+  ticks =
+      let formed' : T (formed (planOf (s .machine)) (shown quieted)) = rw (opened-shown s) f in
+      let q = next-quiet (s .machine) (facts (unowed (s .machine) (reportAt quieted) (s .due .count) (s .given) formed') .sleeps) in
+      record {
+        asks = record { formed' = formed'; stands = record { apart' = record { apart = inl refl }; quiet' = q }; ceilings' = refl; allowed' = tt; tick' = λ z. room };
+        undue = leb→le (s .due .count) (s .given) (both .0);
+        ordered = q .rests (omega (arith, below));
+      }
+
+  pub still-moves : step (planOf (s .machine)) (view s) (call Tick) ≡ moved (view (later s))
+  still-moves = ap (λ (st : state.State). step (planOf (s .machine)) st (call Tick)) (sym (opened-shown s)) ∙ answers-moved (passed-answers ticks refl below) refl ∙ ap moved (opened-shown (later s))

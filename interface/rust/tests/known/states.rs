@@ -1,0 +1,49 @@
+//! Watch states that several tests start from, and what they read there.
+
+use super::PLAN_A;
+use beltcairn::packed::numbers;
+use beltcairn::{Queue, Reply, State, Watch};
+
+/// Clean steps.
+pub fn steps(watch: &mut Watch, records: &[(u8, u16)]) {
+    for (kind, operand) in records {
+        assert!(matches!(watch.step(*kind, *operand), Reply::Clean(_)), "{kind} {operand}");
+    }
+}
+
+pub fn is_refused(mut watch: Watch, question: u8, kind: u8, operand: u16) {
+    let before = watch;
+    assert_eq!(watch.step(kind, operand), Reply::Refused(question));
+    assert_eq!(watch, before);
+}
+
+pub fn listed(queue: &Queue) -> Vec<u8> {
+    numbers(queue.items)[..queue.count].to_vec()
+}
+
+pub fn owed(state: &State) -> Vec<(u8, u16)> {
+    state.owed().iter().map(|report| (report.kind, report.operand)).collect()
+}
+
+/// 16 threads and 16 sections: thread i has priority i + 1 and needs section i.
+pub fn largest() -> Watch {
+    let mut plan = vec![16, 16];
+    plan.extend(1..=16);
+    plan.extend((0..16).flat_map(|i| (1u16 << i).to_le_bytes()));
+    Watch::begin(&plan).unwrap()
+}
+
+/// A state made by hand: thread 0 runs and holds the section that thread 2 waits for, thread 1 sleeps until tick number 9, and it is 7.
+pub fn made() -> Watch {
+    let mut watch = Watch::begin(&PLAN_A).unwrap();
+    let m = &mut watch.state.machine;
+    m.tick = 7;
+    (m.slots.states, m.slots.wants) = (0x321, 0x000);
+    m.wakes[1] = 9;
+    (m.queue.items, m.queue.count) = (0, 1);
+    (m.holds.sections, m.holds.threads, m.holds.count) = (0, 0, 1);
+    (m.waits.items, m.waits.count) = (2, 1);
+    (m.delays.items, m.delays.count) = (1, 1);
+    m.reported = 0;
+    watch
+}
