@@ -5,7 +5,7 @@ ghost use mathlib.Core.List.{[], _∷_, _++_};
 ghost use Prim.Native.Nat.{_≤_, _<_};
 ghost use lib.Dec.{eqb};
 ghost use Rattle.model.specs.Searches.{any, firstGreatest, greatest, without};
-ghost use Rattle.model.specs.Formed.{areThreads};
+ghost use Rattle.model.specs.Formed.{areThreads, times};
 ghost use Rattle.lists.specs.Words.{entryOf};
 ghost use Rattle.lists.specs.Lists.{numbered, queued, currentIn, Positive};
 use crate::nibbles::with_nibble;
@@ -52,8 +52,25 @@ impl Queue {
         }
     }
 
-    // The others, in their order.
+    // This thread goes; the others stay in their order. Among equals it is the first.
     pub fn without(self, thread: u8) -> Queue
+        requires { ⌜ (self .count ≤ 16) × (times (λ u. eqb u thread) (queued self) ≤ 1) ⌝ }
+        ensures { λ r. ⌜ queued r ≡ without thread (queued self) ⌝ }
+    {
+        let first = (self.items % 16) as u8;
+        if 0 < self.count {
+            if first == thread {
+                return Queue {
+                    items: self.items / 16,
+                    count: self.count - 1,
+                };
+            }
+        }
+        self.others(thread)
+    }
+
+    // All but this thread.
+    fn others(self, thread: u8) -> Queue
         requires { ⌜ self .count ≤ 16 ⌝ }
         ensures { λ r. ⌜ queued r ≡ without thread (queued self) ⌝ }
     {

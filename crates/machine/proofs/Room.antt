@@ -1,12 +1,11 @@
 -- No list grows past its room: each thread stands once in the queue, in the waits or in the order of Delays, and each section is held once.
 use mathlib.Core.Path.{_≡_, refl, ap, sym, _∙_}
 use mathlib.Core.Logic.{_⊎_, inl, inr, _≢_}
-use mathlib.Core.Bool.{Bool, true, false, cond, not}
+use mathlib.Core.Bool.{Bool, not}
 use mathlib.Core.List.{List, [], _∷_, _++_, List·Memᴰ as Mem, List·Memᴰ·head as here, List·Memᴰ·tail as there, List·Memᴰ·cases-cons as cases-cons, List·Memᴰ·append-cases as append-cases, Memᴰ·cast as cast}
 use Prim.Native.Nat.{ℕ, _+_, _≤_, _<_}
 use native.Mathlib.Omega.{arith}
-use borrow.Author.Tests.{ne-eqb}
-use lib.Dec.{T, eqb, ltb, ltb→lt, T-not}
+use lib.Dec.{T, eqb, ltb, ltb→lt, eqb→eq, T-not}
 use lib.ListN.{length, length-append}
 use Rattle.model.specs.Searches.{filter, without}
 use Rattle.model.specs.Plan.{base, ceiling}
@@ -14,7 +13,7 @@ use Rattle.model.specs.State.{ready, Hold, hold, isHold, condition}
 use Rattle.model.specs.Priorities.{heldCeiling}
 use Rattle.model.specs.Calls.{sleepsUntil, sleepers, aboveAll, heldByOthers}
 use Rattle.model.specs.Formed.{times}
-use Rattle.model.proofs.Tests.{and-both, eq-test, ne-test, equal?}
+use Rattle.model.proofs.Tests.{split, is-true, is-false, and-left, and-both, eq-test, ne-test, equal?}
 use Rattle.model.proofs.Searches.{all-at, any-fails, filtered, in-filter, Pairwise, pairwise-filter, pairwise-append, pairwise-at, Distinct, stayed, distinct-without, pigeonhole}
 use Rattle.model.proofs.Laws.{ceiling-ge, tag, OtherSection, chosen-is, delayed-below, sleeper, queued-below, waiting-below, sections-fit, last-held}
 use Rattle.plan.proofs.Laws.{threads-view}
@@ -128,22 +127,37 @@ module _ {m : Machine} {x : ℕ} (r : Runs m x) where
 is-hold : (h : Hold) {s x : ℕ} → h .section ≡ s → h .thread ≡ x → T (isHold s x h)
 is-hold h {s} {x} e q = and-both (eqb (h .section) s) (eqb (h .thread) x) (eq-test (h .section) s e) (eq-test (h .thread) x q)
 
+-- of a list in which no two pass a test, one does at most
+module _ {A : Type 0} (R : A → A → Type 0) (p : A → Bool) (apart : (a b : A) → R a b → T (p a) → T (p b) → ⊥) where
+  no-other : {a : A} → T (p a) → (l : List A) → ((b : A) → Mem b l → R a b) → times p l ≡ 0
+  no-other h [] d = refl
+  no-other {a} h (b ∷ l) d = elim (split (p b)) [ inl i ↦ absurd (apart a b (d b (here refl)) h i) | inr i ↦ rw (is-false (p b) i, no-other h l (λ c m. d c (there m))) ]
+
+  one-passes : (l : List A) → Pairwise R l → times p l ≤ 1
+  one-passes [] once = omega arith
+  one-passes (a ∷ l) once =
+      elim (split (p a)) [
+        | inl h ↦ rw (is-true (p a) h) (omega (arith, no-other h l (once .0)))
+        | inr h ↦ rw (is-false (p a) h) (one-passes l (once .1))
+      ]
+
 -- no section is held twice, so nobody holds one twice
 pub held-once : (s x : ℕ) (hs : List Hold) → Pairwise OtherSection hs → times (isHold s x) hs ≤ 1
-held-once s x [] once = omega arith
-held-once s x (h ∷ hs) once = go (equal? (h .section) s) (held-once s x hs (once .1))
+held-once s x hs once = one-passes OtherSection (isHold s x) (λ h k d i j. d (section h i ∙ sym (section k j))) hs once
   where
-    none : h .section ≡ s → (l : List Hold) → ((k : Hold) → Mem k l → OtherSection h k) → times (isHold s x) l ≡ 0
-    none e [] d = refl
-    none e (k ∷ l) d = rw (ne-eqb (k .section) s (λ q. d k (here refl) (e ∙ sym q)), none e l (λ j i. d j (there i)))
+    section : (h : Hold) → T (isHold s x h) → h .section ≡ s
+    section h i = eqb→eq (h .section) s (and-left (eqb (h .section) s) (eqb (h .thread) x) i)
 
-    few : (b : Bool) → times (isHold s x) hs ≡ 0 → length (cond b (h ∷ filter (isHold s x) hs) (filter (isHold s x) hs)) ≤ 1
-    few true z = omega arith
-    few false z = omega arith
+-- no thread is listed twice in the queue or in the waits
+module _ {m : Machine} (f : Facts m) (x : ℕ) where
+  listed-once : (l : List ℕ) → Distinct l → ((t : ℕ) → Mem t l → t < m .plan .threads) → (length l ≤ 16) × (times (λ u. eqb u x) l ≤ 1)
+  listed-once l once known = (threads-fit f l once known, one-passes (λ (a b : ℕ). a ≢ b) (λ u. eqb u x) (λ a b d i j. d (eqb→eq a x i ∙ sym (eqb→eq b x j))) l once)
 
-    go : (h .section ≡ s) ⊎ (h .section ≢ s) → times (isHold s x) hs ≤ 1 → times (isHold s x) (h ∷ hs) ≤ 1
-    go (inl e) rest = few (isHold s x h) (none e hs (once .0))
-    go (inr d) rest = rw (ne-eqb (h .section) s d) rest
+  pub queue-once : (m .queue .count ≤ 16) × (times (λ u. eqb u x) (queued (m .queue)) ≤ 1)
+  queue-once = let r = listed-once (queued (m .queue)) (f .agree .queueOnce) (queued-known f) in (omega (arith, r .0, length-queued (m .queue)), r .1)
+
+  pub waits-once : (m .waits .count ≤ 16) × (times (λ u. eqb u x) (queued (m .waits)) ≤ 1)
+  waits-once = let r = listed-once (queued (m .waits)) (f .agree .waitsOnce) (waiting-known f) in (omega (arith, r .0, length-queued (m .waits)), r .1)
 
 -- holds of other sections than s leave room for one of s
 hold-room : {m : Machine} (f : Facts m) (s x : ℕ) (hs : List Hold) → s < m .plan .sections → Pairwise OtherSection hs → ((h : Hold) → Mem h hs → Mem h (held (m .holds)) × (s ≢ h .section)) → length hs < 16

@@ -18,7 +18,7 @@ use Rattle.machine.proofs.Admitted.{Asked, Runs, Makes, admits, refuses
 use Rattle.machine.proofs.Asking.{delay-rule, delays}
 use Rattle.machine.proofs.Facts.{facts}
 use Rattle.machine.proofs.Sized.{slept-size}
-use Rattle.machine.proofs.Room.{caller-fits, delays-room}
+use Rattle.machine.proofs.Room.{queue-once, caller-fits, delays-room}
 use Rattle.machine.proofs.Chosen.{listed}
 use Rattle.machine.proofs.Views.{sleeps-seen}
 use Rattle.machine.proofs.Meets.{alike}
@@ -62,7 +62,9 @@ array-set-from-wakes : tie.Need-array-set-from-wakes
 array-set-from-wakes c = fits (c .before .before .before .before)
 
 without-requires : tie.Need-without-requires
-without-requires c κs = listed (facts (caller-asked (c .before .before .before .before .before .before .before .pre) .formed)) .counts .queue'
+without-requires c κs =
+    let s = c .before .before .before .before .before .before .before in
+    queue-once (facts (caller-asked (s .pre) .formed)) (s .args .self .machine .reported)
 
 push-requires : tie.Need-push-requires
 push-requires c κs =

@@ -15,7 +15,7 @@ use Rattle.machine.specs.Lists.{owed}
 use Rattle.machine.proofs.Admitted.{Asked, Runs, Makes, admits, refuses, by}
 use Rattle.machine.proofs.Asking.{end-rule, ends}
 use Rattle.machine.proofs.Facts.{facts}
-use Rattle.machine.proofs.Room.{caller-fits}
+use Rattle.machine.proofs.Room.{queue-once, caller-fits}
 use Rattle.machine.proofs.Chosen.{listed}
 use Rattle.machine.proofs.Views.{placed-seen}
 use Rattle.machine.proofs.Meets.{alike}
@@ -36,7 +36,9 @@ placed-requires c κs =
     (caller-fits (admitted (caller-asked (k .before .before .pre)) (k .free-rule .ensures) (c .if1 .taken)), omega arith)
 
 without-requires : tie.Need-without-requires
-without-requires c κs = listed (facts (caller-asked (c .before .before .before .before .pre) .formed)) .counts .queue'
+without-requires c κs =
+    let s = c .before .before .before .before in
+    queue-once (facts (caller-asked (s .pre) .formed)) (s .args .self .machine .reported)
 
 abbrev start : tie.Joined1 → tie.Start
 start c = c .before .before .before

@@ -29,7 +29,7 @@ use Rattle.machine.proofs.Facts.{Facts, facts}
 use Rattle.lists.proofs.Laws.{length-held}
 use Rattle.clock.specs.View.{numberAt}
 use Rattle.machine.proofs.Views.{condition-at, placed-seen}
-use Rattle.machine.proofs.Room.{waiting-known, waiting-fits, waiting-room, held-once, give-room}
+use Rattle.machine.proofs.Room.{waits-once, waiting-known, waiting-fits, waiting-room, held-once, give-room}
 use Rattle.machine.proofs.Chosen.{listed, above-is, heir-same, inherits-same, waits-positive}
 use Rattle.machine.proofs.Meets.{alike, told}
 use Rattle.machine.proofs.Outcomes.{give-asked, call-settles, quiet-answers}
@@ -163,7 +163,7 @@ push-requires c κs =
     (left-room (t .before .before), omega (arith, c .wanted .ensures), heir-below t)
 
 without-requires-2 : tie.Need-without-requires-2
-without-requires-2 c κs = listed (known (start (c .before .before .before .before .before .before))) .counts .waits'
+without-requires-2 c κs = waits-once (known (start (c .before .before .before .before .before .before))) (c .before .before .before .find-heir .result .who)
 
 placed-requires : tie.Need-placed-requires
 placed-requires c κs = (heir-below (c .before .before .before), omega arith)

@@ -22,7 +22,7 @@ use Rattle.machine.proofs.Admitted.{Asked, Runs, Makes, admits, refuses
 use Rattle.machine.proofs.Asking.{relinquish-rule, relinquishes}
 use Rattle.machine.proofs.Facts.{facts}
 use Rattle.lists.proofs.Laws.{length-queued}
-use Rattle.machine.proofs.Room.{caller-known, caller-fits, without-room}
+use Rattle.machine.proofs.Room.{queue-once, caller-known, caller-fits, without-room}
 use Rattle.machine.proofs.Chosen.{listed, rivalled-is, rivalled-same}
 use Rattle.machine.proofs.Meets.{alike, told}
 use Rattle.machine.proofs.Outcomes.{caller-asked, call-settles, quiet-answers}
@@ -68,7 +68,9 @@ rivalled-of-requires c κs =
     (listed (facts (a .formed)) .counts, caller-fits (admitted a (k .run-rule .ensures) (d .if1 .taken)))
 
 without-requires : tie.Need-without-requires
-without-requires c κs = listed (facts (caller-asked (c .before .before .before .before .before .before .before .pre) .formed)) .counts .queue'
+without-requires c κs =
+    let s = c .before .before .before .before .before .before .before in
+    queue-once (facts (caller-asked (s .pre) .formed)) (s .args .self .machine .reported)
 
 push-requires : tie.Need-push-requires
 push-requires c κs =

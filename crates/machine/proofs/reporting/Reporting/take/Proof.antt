@@ -22,7 +22,7 @@ use Rattle.machine.specs.Contracts.{Ceilings}
 use Rattle.machine.proofs.Admitted.{Takes, Makes, admits, refuses, by}
 use Rattle.machine.proofs.Asking.{take-rule, takes}
 use Rattle.machine.proofs.Facts.{Facts, facts}
-use Rattle.machine.proofs.Room.{caller-fits, take-room, waits-room}
+use Rattle.machine.proofs.Room.{queue-once, caller-fits, take-room, waits-room}
 use Rattle.machine.proofs.Chosen.{listed, above-is}
 use Rattle.machine.proofs.Views.{waits-seen}
 use Rattle.machine.proofs.Meets.{alike, told}
@@ -96,7 +96,7 @@ one-requires : tie.Need-one-requires
 one-requires c κs = tt
 
 without-requires : tie.Need-without-requires
-without-requires c κs = listed (known (start (c .before .before .before .before))) .counts .queue'
+without-requires c κs = let s = start (c .before .before .before .before) in queue-once (known s) (s .args .self .machine .reported)
 
 waits-for-requires : tie.Need-waits-for-requires
 waits-for-requires c κs = let g = c .before .before .before .before in (caller-fits (granted g .runs), section-fits (start (g .before)))
