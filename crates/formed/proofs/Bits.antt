@@ -6,7 +6,6 @@ use mathlib.Core.List.{List}
 use Prim.Native.Nat.{ℕ, zero, suc, _+_, _*_, _/_, _%_, _^_, _≤_, _<_}
 use native.Mathlib.Omega.{arith}
 use borrow.Author.Tests.{eq-eqb}
-use native.Mathlib.Nat.{zero-div}
 use lib.Dec.{T, eqb, leb, leb→le, eqb→eq, T-not}
 use lib.Bits.{bitAnd, and-mask, and-shr, and-mod}
 use lib.Pow.{shr-shr}
@@ -15,6 +14,7 @@ use Rattle.model.specs.Formed.{times}
 use Rattle.model.proofs.Tests.{is-true, is-false, from-true, not-not, split, and-left, and-right}
 use Rattle.model.proofs.Searches.{all-at, all-fails, upTo-at, in-upTo}
 use Rattle.lists.specs.Words.{nibble}
+use Rattle.lists.proofs.Laws.{zero-nibble}
 use Rattle.formed.specs.Contracts.{namesBy, standsBy, standing}
 
 -- the bits of a word that stand in another, number by number
@@ -30,9 +30,6 @@ nibble-half a t =
 -- a word with one number at all its places
 everywhere : (w v : ℕ) → T (all (λ t. eqb (nibble w t) v) (upTo 16)) → (t : ℕ) → t < 16 → T (eqb (nibble w t) v)
 everywhere w v a t h = all-at (λ t. eqb (nibble w t) v) (upTo 16) a (in-upTo 16 t h)
-
-pub zero-nibble : (t : ℕ) → nibble 0 t ≡ 0
-zero-nibble t = ap (λ n. n % 16) (zero-div (2 ^ (4 * t)))
 
 -- a number without its two highest bits is a condition's
 low : (s : ℕ) → s < 16 → bitAnd s 12 ≡ 0 → s ≤ 3

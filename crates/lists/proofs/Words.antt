@@ -3,7 +3,7 @@ use mathlib.Core.Path.{_≡_, refl, ap, sym, _∙_}
 use mathlib.Core.Logic.{_≢_}
 use mathlib.Core.List.{_∷_, [], _++_}
 use Prim.Native.Nat.{ℕ, zero, suc, _+_, _*_, _/_, _%_, _^_, _≤_, _<_}
-use native.Mathlib.Nat.{mul-left-comm}
+use native.Mathlib.Nat.{mul-left-comm, zero-div}
 use native.Mathlib.Numerals.{add-one}
 use native.Mathlib.Omega.{arith}
 use lib.Pow.{shr-shr, pow-add, field, mod-mod-pow}
@@ -15,6 +15,10 @@ unit-next k = let z : 4 * suc k ≡ 4 + 4 * k = omega arith in ap (λ n. 2 ^ n) 
 
 nibble-first : (w : ℕ) → nibble w 0 ≡ w % 16
 nibble-first w = omega arith
+
+-- the word 0 has 0 everywhere
+pub zero-nibble : (k : ℕ) → nibble 0 k ≡ 0
+zero-nibble k = ap (λ n. n % 16) (zero-div (2 ^ (4 * k)))
 
 -- a place further on is a place of what is left behind the first number
 pub nibble-next : (w k : ℕ) → nibble w (suc k) ≡ nibble (w / 16) k

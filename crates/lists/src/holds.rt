@@ -13,7 +13,7 @@ ghost use Rattle.model.specs.Rules.{holdsNone, holdsNot, lastTaken};
 ghost use Rattle.model.specs.Formed.{holdInRange, times, heldOnce};
 ghost use Rattle.lists.specs.Words.{inFront};
 ghost use Rattle.lists.specs.Lists.{numbered, held, ceilingIn};
-use crate::nibbles::tally;
+use crate::nibbles::nibble_at;
 use crate::nibbles::with_nibble;
 
 // Sections and the threads that hold them, the latest in the lowest four bits; bits at `count` and above mean nothing.
@@ -217,22 +217,23 @@ impl Holds {
         true
     }
 
-    // Whether no section is held twice.
+    // Whether no section is held twice: each is noted in a word when it is first met.
     pub fn once(self, sections: usize) -> bool
-        requires { ⌜ (self .count ≤ 16) × (sections ≤ 16) ⌝ }
         ensures { λ r. ⌜ r ≡ heldOnce sections (held self) ⌝ }
     {
-        if self.count < 2 {
-            return true;
-        }
-        let mut found = [0u8; 16];
-        tally(self.sections, self.count, &mut found);
-        let mut s: usize = 0;
-        while s < sections {
-            if 1 < found[s] {
-                return false;
+        let mut met: u64 = 0;
+        let mut rest = self.sections;
+        let mut left = self.count;
+        while 0 < left {
+            let s = (rest % 16) as u8;
+            rest = rest / 16;
+            left -= 1;
+            if (s as usize) < sections {
+                if nibble_at(met, s) != 0 {
+                    return false;
+                }
+                met = with_nibble(met, s, 1);
             }
-            s += 1;
         }
         true
     }

@@ -10,8 +10,8 @@ use Rattle.model.specs.Formed.{times}
 use Rattle.model.proofs.Tests.{from-true}
 use Rattle.lists.specs.Words.{nibble}
 use Rattle.lists.specs.Lists.{queued}
-use Rattle.lists.proofs.Laws.{times-within}
-use Rattle.formed.proofs.Bits.{zero-nibble, all-standing}
+use Rattle.lists.proofs.Laws.{zero-nibble, times-within}
+use Rattle.formed.proofs.Bits.{all-standing}
 use Rattle.formed.proofs.standing.all_stand.Statement.{statement}
 use Rattle.formed.proofs.standing.all_stand.Tie as tie
 
