@@ -3,11 +3,11 @@ ghost use mathlib.Core.Path.{_≡_};
 ghost use mathlib.Core.Bool.{cond};
 ghost use mathlib.Core.Option.{none};
 ghost use Prim.Native.Nat.{_≤_, _<_};
-ghost use lib.Dec.{T, eqb};
+ghost use lib.Dec.{T, eqb, ltb};
 ghost use Rattle.model.specs.Records.{timerCount, Period};
 ghost use Rattle.model.specs.Rules.{stage};
 ghost use Rattle.model.specs.Timers.{noTimers, isComplete, afterArm, afterStart, timerGiven, slot, isArmed, setSlot, setArming, setTimer, startGiven, lost, armedAt, expiresAt, timer, again, moveOn};
-ghost use Rattle.model.specs.Formed.{lastTick, armingInRange};
+ghost use Rattle.model.specs.Formed.{lastTick, lastWake, armingInRange};
 ghost use Rattle.clock.specs.View.{view, slotOf};
 ghost use Rattle.clock.specs.Contracts.{kindPlace, Comes, soonest};
 use crate::time::LAST_WAKE;
@@ -217,6 +217,24 @@ impl Timers {
             i += 1;
         }
         first
+    }
+
+    // Whether every timer that is armed expires after this tick number: asked of all eight at once, without an early end.
+    pub fn all_after(self, number: Tick) -> bool
+        requires { ⌜ number .0 < lastWake ⌝ }
+        ensures { λ r. ⌜ r ≡ ltb (number .0) (soonest (view self .slots)) ⌝ }
+    {
+        let all = self.expiries;
+        let mut pass = true;
+        let mut i: usize = 0;
+        while i < TIMERS {
+            let expiry = all[i];
+            if expiry.0 != 0 && expiry.0 <= number.0 {
+                pass = false;
+            }
+            i += 1;
+        }
+        pass
     }
 }
 

@@ -138,6 +138,9 @@ passed c =
 abbrev pub later : State → State
 later s = record { machine = nextTick (s .machine); due = s .due; given = s .given }
 
--- nothing is due in a state, and nothing happens at its next Tick
+-- in a state nothing is due, no arming is in progress, and no timer and no sleeper has the next tick number or an earlier one
 abbrev pub still : State → Bool
-still s = leb (s .due .count) (s .given) && ltb (s .machine .tick .0 + 1) (nextEventOf (s .machine))
+still s =
+    let m = s .machine in
+    let n = m .tick .0 + 1 in
+    leb (s .due .count) (s .given) && isComplete (timing.view (m .timers) .arming) && ltb n (soonestExpiry (timing.view (m .timers) .slots)) && ltb n (soonest (m .wakes) (queued (m .delays)))

@@ -82,9 +82,19 @@ impl State {
     {
         let now = self.machine.tick;
         let number = now.next();
+        if self.given < self.due.count {
+            return false;
+        }
+        let timers = self.machine.timers;
+        if !timers.is_complete() {
+            return false;
+        }
+        if !timers.all_after(number) {
+            return false;
+        }
         let wakes = self.machine.wakes;
-        let until = next_event(self.machine.delays, wakes, self.machine.timers);
-        self.due.count <= self.given && number.0 < until.0
+        let first = soonest(self.machine.delays, wakes);
+        number.0 < first.0
     }
 
     // After such a Tick: the tick number grows, and nothing else changes.
