@@ -3,10 +3,10 @@ use mathlib.Core.Path.{_≡_, refl, ap, sym, _∙_}
 use mathlib.Core.Logic.{_≢_}
 use mathlib.Core.List.{_∷_, [], _++_}
 use Prim.Native.Nat.{ℕ, zero, suc, _+_, _*_, _/_, _%_, _^_, _≤_, _<_}
-use native.Mathlib.Nat.{mul-left-comm, zero-div}
+use native.Mathlib.Nat.{mul-left-comm, add-mul, zero-div}
 use native.Mathlib.Numerals.{add-one}
 use native.Mathlib.Omega.{arith}
-use lib.Pow.{shr-shr, pow-add, field, mod-mod-pow}
+use lib.Pow.{shr-shr, shl-exact, pow-add, field, mod-mod-pow}
 use Rattle.lists.specs.Words.{nibble, withNibble, inFront, nibbles}
 
 -- sixteen to a place is two to four times it
@@ -32,6 +32,14 @@ next-weight d k = ap (λ u. d * u) (unit-next k) ∙ mul-left-comm d 16 (2 ^ (4 
 pub nibble-within : (w k : ℕ) → nibble w k * 2 ^ (4 * k) ≤ w
 nibble-within w zero = omega arith
 nibble-within w (suc k) = omega (arith, next-weight (nibble w (suc k)) k, ap (λ d. d * 2 ^ (4 * k)) (nibble-next w k), nibble-within (w / 16) k)
+
+-- a number below sixteen at one of sixteen places is below the word's end, so that no shift to there loses a bit
+pub exact : (d k : ℕ) → d < 16 → k < 16 → d * 2 ^ (4 * k) % 2 ^ 64 ≡ d * 2 ^ (4 * k)
+exact d k h b = shl-exact 4 (4 * k) 64 h (omega arith)
+
+-- a number grows by one where a one that is shifted to its place is added
+pub one-more : (w k : ℕ) → k < 16 → w + 1 * 2 ^ (4 * k) % 2 ^ 64 ≡ withNibble w k (nibble w k + 1)
+one-more w k h = omega (arith, exact 1 k (omega arith) h, nibble-within w k, add-mul (nibble w k) 1 (2 ^ (4 * k)))
 
 set-first : (w v : ℕ) → withNibble w 0 v ≡ w / 16 * 16 + v
 set-first w v = omega arith

@@ -54,11 +54,11 @@ pub fn marks(start: u64, word: u64, count: usize) -> u64
     let mut rest = word;
     let mut left = count;
     while 0 < left {
-        let k = (rest % 16) as u8;
+        let by = 4 * (rest % 16);
         rest = rest / 16;
         left -= 1;
-        let n = nibble_at(total, k);
-        total = with_nibble(total, k, n + 1);
+        let one: u64 = 1;
+        total = total + (one << by);
     }
     total
 }

@@ -1,17 +1,12 @@
 -- `with_nibble` meets its contract: the old number stands within the word, and no shift loses a bit.
 use mathlib.Core.Path.{_≡_}
-use Prim.Native.Nat.{ℕ, _+_, _-_, _*_, _%_, _^_, _<_}
+use Prim.Native.Nat.{_+_, _-_, _*_, _%_, _^_}
 use native.Mathlib.Omega.{arith}
 use borrow.Author.Needs.{needs}
-use lib.Pow.{shl-exact}
 use Rattle.lists.specs.Words.{nibble, withNibble}
-use Rattle.lists.proofs.Words.{nibble-within, set-fits}
+use Rattle.lists.proofs.Words.{nibble-within, exact, set-fits}
 use Rattle.lists.proofs.nibbles.with_nibble.Statement.{statement}
 use Rattle.lists.proofs.nibbles.with_nibble.Tie as tie
-
--- a number below sixteen at one of sixteen places is below the word's end
-exact : (d k : ℕ) → d < 16 → k < 16 → d * 2 ^ (4 * k) % 2 ^ 64 ≡ d * 2 ^ (4 * k)
-exact d k h b = shl-exact 4 (4 * k) 64 h (omega arith)
 
 mul-by : tie.Need-mul-by
 mul-by c = search needs
