@@ -25,6 +25,10 @@ namesThose n states l a b = all (λ t. namesBy l a b (nibble states t) t) (upTo 
 abbrev pub standsBy : (queue waits delays : List ℕ) (state thread : ℕ) → Bool
 standsBy q ws ds s t = namesBy q 1 1 s t && namesBy ws 3 15 s t && namesBy ds 2 2 s t
 
+-- all sixteen do so, those past the last thread too, and every number is that of a condition
+abbrev pub allStand : (states : ℕ) (queue waits delays : List ℕ) → Bool
+allStand states q ws ds = all (λ t. leb (nibble states t) 3 && standsBy q ws ds (nibble states t) t) (upTo 16)
+
 -- so does each of so many threads, list by list
 abbrev pub standing : (threads states : ℕ) (queue waits delays : List ℕ) → Bool
 standing n states q ws ds = namesThose n states q 1 1 && namesThose n states ws 3 15 && namesThose n states ds 2 2

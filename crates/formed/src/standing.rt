@@ -1,11 +1,10 @@
 // Where the threads of a lent state stand: a ready one in the queue, one that waits in the waits, a sleeper in the order of Delays, each once.
 ghost use mathlib.Core.Path.{_≡_};
-ghost use mathlib.Core.Bool.{true, cond, _&&_};
-ghost use Prim.Native.Nat.{ℕ, _+_, _≤_, _<_};
+ghost use mathlib.Core.Bool.{cond, _&&_};
+ghost use Prim.Native.Nat.{_+_, _≤_, _<_};
 ghost use lib.Dec.{leb};
-ghost use Rattle.lists.specs.Words.{nibble};
 ghost use Rattle.lists.specs.Lists.{queued};
-ghost use Rattle.formed.specs.Contracts.{standsBy, namesThose, standing};
+ghost use Rattle.formed.specs.Contracts.{allStand, namesThose, standing};
 use lists::nibbles::marks;
 use lists::nibbles::nibble_at;
 use lists::nibbles::tally;
@@ -15,15 +14,21 @@ use lists::queue::Queue;
 // condition says that the thread is ready or waits, the next one that it waits or sleeps.
 fn all_stand(states: u64, queue: Queue, waits: Queue, delays: Queue) -> bool
     requires { ⌜ (queue .count + waits .count < 16) × (delays .count + waits .count < 16) ⌝ }
-    ensures { λ r. ⌜ (r ≡ true → (t : ℕ) → t < 16 → standsBy (queued queue) (queued waits) (queued delays) (nibble states t) t ≡ true) ⌝ }
+    ensures { λ r. ⌜ r ≡ allStand states (queued queue) (queued waits) (queued delays) ⌝ }
 {
     let waiting = marks(0, waits.items, waits.count);
     let lowest = marks(waiting, queue.items, queue.count);
     let next = marks(waiting, delays.items, delays.count);
-    states & 0xcccccccccccccccc == 0
-        && states & 0x1111111111111111 == lowest
-        && (states / 2) & 0x1111111111111111 == next
-        && lowest & next == waiting
+    if states & 0xcccccccccccccccc != 0 {
+        return false;
+    }
+    if states & 0x1111111111111111 != lowest {
+        return false;
+    }
+    if (states / 2) & 0x1111111111111111 != next {
+        return false;
+    }
+    lowest & next == waiting
 }
 
 // How often a list of the conditions from `least` to `most` names a thread in this one.

@@ -13,8 +13,8 @@ use Rattle.lists.proofs.Holdings.{held-length}
 use Rattle.lists.proofs.Queues.{length-nibbles}
 -- what is left of a word has its first number in front, and at the end nothing is left
 pub use Rattle.lists.proofs.Queues.{first, ended}
--- what is read of the word 0, of a word where a number was set, and elsewhere
-pub use Rattle.lists.proofs.Words.{zero-nibble, read-set, read-other}
+-- what is read of the word 0, of a word where a number was set, and elsewhere; words that read the same
+pub use Rattle.lists.proofs.Words.{zero-nibble, read-set, read-other, same-word}
 -- those that pass a test, of two lists in a row and of a list with one more at its end
 pub use Rattle.lists.proofs.Queues.{filter-append, filter-kept, filter-dropped}
 -- a word has as many numbers that pass a test as are counted, at most

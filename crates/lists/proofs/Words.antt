@@ -28,6 +28,13 @@ nibble-next w k = let z : 4 + 4 * k ≡ 4 * suc k = omega arith in sym (ap (λ n
 next-weight : (d k : ℕ) → d * 2 ^ (4 * suc k) ≡ 16 * (d * 2 ^ (4 * k))
 next-weight d k = ap (λ u. d * u) (unit-next k) ∙ mul-left-comm d 16 (2 ^ (4 * k))
 
+-- words that have the same numbers everywhere are the same
+pub same-word : (n w v : ℕ) → w < 2 ^ (4 * n) → v < 2 ^ (4 * n) → ((k : ℕ) → k < n → nibble w k ≡ nibble v k) → w ≡ v
+same-word zero w v a b e = omega arith
+same-word (suc n) w v a b e =
+    let rest = same-word n (w / 16) (v / 16) (omega (arith, unit-next n)) (omega (arith, unit-next n)) (λ k h. sym (nibble-next w k) ∙ e (suc k) (omega arith) ∙ nibble-next v k) in
+    omega (arith, rest, e 0 (omega arith), nibble-first w, nibble-first v)
+
 -- a number stands within the word that it is read from
 pub nibble-within : (w k : ℕ) → nibble w k * 2 ^ (4 * k) ≤ w
 nibble-within w zero = omega arith

@@ -1,17 +1,20 @@
 -- `all_stand` meets its contract: the words count what stands in the waits, and with them in the queue and in the order of Delays; the tests tell it of every thread.
 use mathlib.Core.Path.{_≡_, sym, _∙_}
-use mathlib.Core.Logic.{⊎-elim}
-use mathlib.Core.Bool.{false}
-use Prim.Native.Nat.{ℕ, _+_, _/_, _≤_, _<_}
+use mathlib.Core.Logic.{inl, inr}
+use mathlib.Core.Bool.{Bool, false}
+use Prim.Native.Nat.{ℕ, _+_, _≤_, _<_}
 use native.Mathlib.Omega.{arith}
-use lib.Dec.{eqb, eqb→eq}
+use borrow.Author.Needs.{needs}
+use borrow.Author.Tests.{eq-eqb, ne-eqb}
+use lib.Dec.{T, eqb, T-not}
 use lib.Bits.{bitAnd}
 use Rattle.model.specs.Formed.{times}
-use Rattle.model.proofs.Tests.{from-true}
+use Rattle.model.proofs.Tests.{split, is-true, is-false}
 use Rattle.lists.specs.Words.{nibble}
 use Rattle.lists.specs.Lists.{queued}
 use Rattle.lists.proofs.Laws.{zero-nibble, times-within}
-use Rattle.formed.proofs.Bits.{all-standing}
+use Rattle.formed.specs.Contracts.{allStand}
+use Rattle.formed.proofs.Bits.{Counting, all-standing, no-high, odds-are, halves-are, both-are}
 use Rattle.formed.proofs.standing.all_stand.Statement.{statement}
 use Rattle.formed.proofs.standing.all_stand.Tie as tie
 
@@ -31,38 +34,51 @@ marks-requires-2 c κs = fits (c .before) (c .marks .result) (c .before .args .q
 marks-requires-3 : tie.Need-marks-requires-3
 marks-requires-3 c κs = let k = c .before in fits (k .before) (k .marks .result) (k .before .args .delays .count) (k .before .pre .1) (k .marks .ensures)
 
+-- the words, and the lists that they count
+module _ (c : tie.After-marks3) where
+  abbrev start : tie.Start
+  start = c .before .before .before
+
+  abbrev words : Counting (queued (start .args .queue)) (queued (start .args .waits)) (queued (start .args .delays))
+  words =
+      record {
+        waiting = c .before .before .marks .result;
+        lowest = c .before .marks2 .result;
+        next = c .marks3 .result;
+        waiting' = λ t h. omega (arith, c .before .before .marks .ensures t h, zero-nibble t);
+        lowest' = c .before .marks2 .ensures;
+        next' = c .marks3 .ensures;
+        fit = (search needs, search needs, search needs);
+      }
+
+  abbrev answer : Bool
+  answer = allStand (start .args .states) (queued (start .args .queue)) (queued (start .args .waits)) (queued (start .args .delays))
+
+  -- where not all stand so, the answer is No
+  no-unless : (T answer → ⊥) → false ≡ answer
+  no-unless f = elim (split answer) [ inl a ↦ absurd (f a) | inr b ↦ sym (is-false answer b) ]
+
 returns : tie.Need-returns
-returns c e =
-    let j = c .before in
-    let i = j .before in
-    let k = i .before in
-    let a = k .before .before .before .args in
-    let waiting = k .before .before .marks .result in
-    let lowest = k .before .marks2 .result in
-    let next = k .marks3 .result in
-    ⊎-elim
-    (λ v.
-    let n : j .if2 .if3 ≡ eqb (bitAnd (a .states / 2) 1229782938247303441) next = v .1 in
-    ⊎-elim
-    (λ w.
-    let o : i .if1 .if2 ≡ eqb (bitAnd (a .states) 1229782938247303441) lowest = w .1 in
-    all-standing (queued (a .queue)) (queued (a .waits)) (queued (a .delays)) (a .states) waiting lowest next
-    (λ t h. omega (arith, k .before .before .marks .ensures t h, zero-nibble t))
-    (k .before .marks2 .ensures)
-    (k .marks3 .ensures)
-    (w .0 .taken)
-    (eqb→eq (bitAnd (a .states) 1229782938247303441) lowest (from-true _ (sym o ∙ v .0 .taken)))
-    (eqb→eq (bitAnd (a .states / 2) 1229782938247303441) next (from-true _ (sym n ∙ c .if3 .taken)))
-    (eqb→eq (bitAnd lowest next) waiting (from-true (eqb (bitAnd lowest next) waiting) e)))
-    (λ w.
-    let z : i .if1 .if2 ≡ eqb (bitAnd (a .states) 14757395258967641292) 0 = w .1 in
-    absurd (w .0 .left (eqb→eq (bitAnd (a .states) 14757395258967641292) 0 (from-true _ (sym z ∙ v .0 .taken)))))
-    (i .if1 .came))
-    (λ v. let z : j .if2 .if3 ≡ i .if1 .if2 = v .1 in absurd (from-true false (sym (v .0 .left) ∙ sym z ∙ c .if3 .taken)))
-    (j .if2 .came)
+returns c = let k = c .before in no-unless k (λ a. c .if1 .taken (no-high (start k .args .states) (words k) a))
 
 returns-2 : tie.Need-returns-2
-returns-2 c e = absurd (from-true false (sym (c .if3 .left) ∙ e))
+returns-2 c = let k = c .before .before in no-unless k (λ a. c .if2 .taken (odds-are (start k .args .states) (words k) a))
+
+returns-3 : tie.Need-returns-3
+returns-3 c = let k = c .before .before .before in no-unless k (λ a. c .if3 .taken (halves-are (start k .args .states) (words k) a))
+
+returns-4 : tie.Need-returns-4
+returns-4 c =
+    let n = c .before in
+    let o = n .before in
+    let k = o .before in
+    let s = start k .args .states in
+    let waiting = k .before .before .marks .result in
+    let both = bitAnd (k .before .marks2 .result) (k .marks3 .result) in
+    elim (split (answer k)) [
+      | inl a ↦ eq-eqb both waiting (both-are s (words k) a) ∙ sym (is-true (answer k) a)
+      | inr b ↦ ne-eqb both waiting (λ e. T-not (answer k) b (all-standing s (words k) (o .if1 .left) (n .if2 .left) (c .if3 .left) e)) ∙ sym (is-false (answer k) b)
+    ]
 
 pub all-stand-spec : {M : Type 1} → statement M
-all-stand-spec = tie.close (tie.spec marks-requires marks-requires-2 marks-requires-3 returns returns-2)
+all-stand-spec = tie.close (tie.spec marks-requires marks-requires-2 marks-requires-3 returns returns-2 returns-3 returns-4)

@@ -5,8 +5,9 @@ use mathlib.Core.Bool.{Bool, _&&_}
 use Prim.Native.Nat.{_+_}
 use borrow.Author.Needs.{needs}
 use borrow.Author.Tests.{ltb-true}
+use Rattle.model.proofs.Tests.{from-true}
 use Rattle.lists.specs.Lists.{queued}
-use Rattle.formed.specs.Contracts.{namesThose}
+use Rattle.formed.specs.Contracts.{allStand, namesThose}
 use Rattle.formed.proofs.Bits.{all-listed}
 use Rattle.formed.proofs.Outside.{second-asked, first-fails}
 use Rattle.formed.proofs.standing.stand_once.Statement.{statement}
@@ -28,7 +29,7 @@ returns : tie.Need-returns
 returns c =
     let s = c .before .before .before .before .before .before .before .before in
     let a = s .args in
-    sym (all-listed (a .threads) (a .states) (queued (a .queue)) (queued (a .waits)) (queued (a .delays)) (s .pre .0) (c .before .all-stand .ensures (c .if3 .taken)))
+    sym (all-listed (a .threads) (a .states) (queued (a .queue)) (queued (a .waits)) (queued (a .delays)) (s .pre .0) (from-true (allStand (a .states) (queued (a .queue)) (queued (a .waits)) (queued (a .delays))) (sym (c .before .all-stand .ensures) ∙ c .if3 .taken)))
 
 names-requires : tie.Need-names-requires
 names-requires c κs = search needs
