@@ -12,7 +12,7 @@ use Rattle.model.specs.Searches.{upTo}
 use Rattle.model.specs.Records.{timerCount}
 use Rattle.model.specs.Timers.{Timer, timer, slot}
 use Rattle.model.specs.Formed.{lastWake}
-use Rattle.model.proofs.Loops.{listed, length-listed, changed-at}
+use Rattle.model.proofs.Loops.{listed, changed-at}
 use Rattle.clock.specs.declared.time.Tick.{Tick}
 use Rattle.clock.specs.declared.timers.Timers.{Timers}
 use Rattle.clock.specs.View.{numberAt, slotOf, slotIn, view}
@@ -22,9 +22,6 @@ use Rattle.clock.specs.Contracts.{soonest}
 
 pub slot-at : (t : Timers) (i : ℕ) → i < timerCount → slot (view t) i ≡ slotIn t i
 slot-at t i h = listed (slotIn t) timerCount i none h
-
-pub slots-size : (t : Timers) → length (view t .slots) ≡ timerCount
-slots-size t = length-listed (slotIn t) timerCount
 
 -- an entry of 0 is a timer that is not armed, any other one that is
 

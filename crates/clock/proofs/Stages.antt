@@ -2,7 +2,7 @@
 use mathlib.Core.Path.{_≡_, refl, ap, sym, _∙_}
 use mathlib.Core.Logic.{_⊎_, inl, inr, _≢_}
 use mathlib.Core.Bool.{Bool, true, false, cond}
-use Prim.Native.Nat.{_≤_, _<_}
+use Prim.Native.Nat.{_<_}
 use native.Mathlib.Omega.{arith}
 use borrow.Author.Tests.{ne-eqb}
 use lib.Dec.{T, eqb, ltb→lt}
@@ -61,17 +61,6 @@ given-in-range (afterArm i) t = ltb→lt i 8 t
 given-in-range (afterStart i s) t = ltb→lt i 8 t
 
 module _ (t : Timers) where
-  pub in-range-stage : T (armingInRange (view t .arming)) → t .arming .stage ≤ 2
-  in-range-stage r = go (stands (t .arming) r)
-    where
-      go : Stands (t .arming) (armingOf (t .arming)) → t .arming .stage ≤ 2
-      go (idle p e) = omega arith
-      go (begun p e) = omega arith
-      go (started p e) = omega arith
-
-  pub given-known : T (armingInRange (view t .arming)) → timerGiven (view t .arming) < 8
-  given-known r = given-in-range (view t .arming) r
-
   pub after-arm : Comes t 1 → view t .arming ≡ afterArm (t .arming .timer)
   after-arm c = go (stands (t .arming) (c .known))
     where
@@ -90,7 +79,7 @@ module _ (t : Timers) where
 
   -- the timer and the start that are kept are those given
   pub timer-known : Comes t 2 → t .arming .timer < 8
-  timer-known c = omega (arith, given-known (c .known), ap timerGiven (after-start c))
+  timer-known c = omega (arith, given-in-range (view t .arming) (c .known), ap timerGiven (after-start c))
 
   pub start-kept : Comes t 2 → startGiven (view t .arming) ≡ t .arming .start
   start-kept c = ap startGiven (after-start c)

@@ -15,8 +15,8 @@ use Rattle.lists.proofs.Queues.{length-nibbles}
 pub use Rattle.lists.proofs.Queues.{first, ended}
 -- what is read of the word 0, of a word where a number was set, and elsewhere; words that read the same
 pub use Rattle.lists.proofs.Words.{zero-nibble, read-set, read-other, same-word}
--- those that pass a test, of two lists in a row and of a list with one more at its end
-pub use Rattle.lists.proofs.Queues.{filter-append, filter-kept, filter-dropped}
+-- those that pass a test, of a list with one more at its end
+pub use Rattle.lists.proofs.Queues.{filter-kept, filter-dropped}
 -- a word has as many numbers that pass a test as are counted, at most
 pub use Rattle.lists.proofs.Queues.{times-within}
 -- while nobody waits every thread has its base

@@ -93,7 +93,7 @@ pub times-within : (f : ℕ → Bool) (n w : ℕ) → times f (nibbles n w) ≤ 
 times-within f n w = omega (arith, times-bound f (nibbles n w), length-nibbles n w)
 
 module _ {A : Type 0} where
-  pub filter-append : (f : A → Bool) (l m : List A) → filter f (l ++ m) ≡ filter f l ++ filter f m
+  filter-append : (f : A → Bool) (l m : List A) → filter f (l ++ m) ≡ filter f l ++ filter f m
   filter-append f [] m = refl
   filter-append f (b ∷ l) m = go (f b) (filter-append f l m)
     where

@@ -1,4 +1,4 @@
-// Threads in order: the ready queue (document 01's line), and the waits.
+// Threads in order: the ready queue (document 01's line), the waits, and the order of Delays (document 02).
 ghost use mathlib.Core.Path.{_≡_};
 ghost use mathlib.Core.Bool.{not, _&&_};
 ghost use mathlib.Core.List.{[], _∷_, _++_};

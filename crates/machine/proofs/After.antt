@@ -13,7 +13,7 @@ use Rattle.model.specs.Plan.{base, ceiling, validPlan}
 use Rattle.model.specs.Records.{timerCount, TimerCall, Arm, Start, Period, Cancel, Ready, Won, Lost, Yield, Expire}
 use Rattle.model.specs.Timers.{Timers, slot, lateDue, expiresAt, expired}
 use Rattle.model.specs.State.{Condition, dormant, asleep, waiting, State, condition, latestSwitch, lastReported, becomes, leaveQueue, joinQueue, arrive, joinWaits, leaveWaits, isHold, beginHold, endHold, owe}
-use Rattle.model.specs.Calls.{create, sleepers, tick, delay, rivalled, relinquish, end, aboveAll, heldByOthers, take, wanted, heir, handOver, give, timing}
+use Rattle.model.specs.Calls.{create, sleepsUntil, sleepers, tick, delay, rivalled, relinquish, end, aboveAll, heldByOthers, take, wanted, heir, handOver, give, timing}
 use Rattle.model.proofs.Searches.{greatest-is, stayed, distinct-without}
 use Rattle.model.proofs.Loops.{filter-few}
 use Rattle.model.proofs.Laws.{sleeper}
@@ -31,7 +31,7 @@ use Rattle.machine.proofs.Switched.{Settles}
 use Rattle.machine.proofs.Facts.{Formed, Facts, facts}
 use Rattle.lists.proofs.Laws.{length-queued, length-held}
 use Rattle.machine.proofs.Views.{length-owed}
-use Rattle.machine.proofs.Room.{waiting-known, threads-fit, waiting-room, woken-room, create-room, caller-known, without-room, waits-room, take-room, give-room}
+use Rattle.machine.proofs.Room.{waiting-known, threads-fit, waiting-room, sleepers-room, delays-fit, create-room, caller-known, without-room, waits-room, take-room, give-room}
 use Rattle.machine.proofs.Chosen.{listed}
 
 -- the lists fit their words and name threads, there is room for a Switch behind the reports due, and none of them is a Switch: the thread last reported is still
@@ -109,14 +109,14 @@ ticked {m} c =
     let f = facts (c .formed) in
     let woken = sleepers (suc (m .tick .0)) (idle m) in
     let ended = expired (suc (m .tick .0)) (idle m .timers) in
-    let room = woken-room f (suc (m .tick .0)) in
+    let fewer = filter-few (λ t. sleepsUntil (suc (m .tick .0)) (condition (idle m) t)) (queued (m .delays)) in
     record {
-      queue' = omega (arith, length-append (queued (m .queue)) woken, room);
+      queue' = omega (arith, length-append (queued (m .queue)) woken, fewer, length-queued (m .queue), length-queued (m .delays), sleepers-room f);
       holds' = before f .holds';
       waits' = before f .waits';
       known = known-more (m .plan .threads) (queued (m .queue)) woken (before f .known) (λ t i. omega (arith, sleeper (suc (m .tick .0)) (idle m) t i .0, f .agree .sized, threads-view (m .plan)));
       waiting' = before f .waiting';
-      few = omega (arith, length-append (map Expire ended) (map Ready woken), length-map ended Expire, length-map woken Ready, filter-few (λ i. expiresAt (suc (m .tick .0)) (slot (idle m .timers) i)) (upTo timerCount), room);
+      few = omega (arith, length-append (map Expire ended) (map Ready woken), length-map ended Expire, length-map woken Ready, filter-few (λ i. expiresAt (suc (m .tick .0)) (slot (idle m .timers) i)) (upTo timerCount), fewer, length-queued (m .delays), delays-fit f);
       last = none-switched (idle m .reported) ended woken;
     }
 

@@ -11,11 +11,11 @@ use Rattle.model.specs.Searches.{filter, without}
 use Rattle.model.specs.Plan.{base, ceiling}
 use Rattle.model.specs.State.{ready, Hold, hold, isHold, condition}
 use Rattle.model.specs.Priorities.{heldCeiling}
-use Rattle.model.specs.Calls.{sleepsUntil, sleepers, aboveAll, heldByOthers}
+use Rattle.model.specs.Calls.{aboveAll, heldByOthers}
 use Rattle.model.specs.Formed.{times}
 use Rattle.model.proofs.Tests.{split, is-true, is-false, and-left, and-both, eq-test, ne-test, equal?}
 use Rattle.model.proofs.Searches.{all-at, any-fails, filtered, in-filter, Pairwise, pairwise-filter, pairwise-append, pairwise-at, Distinct, stayed, distinct-without, pigeonhole}
-use Rattle.model.proofs.Laws.{ceiling-ge, tag, OtherSection, chosen-is, delayed-below, sleeper, queued-below, waiting-below, sections-fit, last-held}
+use Rattle.model.proofs.Laws.{ceiling-ge, tag, OtherSection, chosen-is, delayed-below, queued-below, waiting-below, sections-fit, last-held}
 use Rattle.plan.proofs.Laws.{threads-view}
 use Rattle.machine.specs.declared.Machine.{Machine}
 use Rattle.lists.specs.Lists.{queued, held}
@@ -45,9 +45,6 @@ module _ {m : Machine} (f : Facts m) where
       below u (inl e) = omega arith
       below u (inr i) = known u i
 
-  pub delays-fit : m .delays .count ≤ 16
-  delays-fit = omega (arith, length-queued (m .delays), threads-fit (queued (m .delays)) (f .sleeps .delaysOnce) delayed-known)
-
   -- a thread that is not ready is not in the queue, which therefore has room for it
   pub queue-room : (t : ℕ) → t < m .plan .threads → (condition (idle m) t ≡ ready → ⊥) → m .queue .count < 16
   queue-room t h rests = omega (arith, length-queued (m .queue), one-more t (queued (m .queue)) (f .agree .queueOnce) queued-known h (λ i. rests (f .agree .queued t i)))
@@ -60,25 +57,26 @@ module _ {m : Machine} (f : Facts m) where
   pub waiting-room : (w : ℕ) → Mem w (queued (m .waits)) → m .queue .count < 16
   waiting-room w i = queue-room w (waiting-known w i) (λ e. omega (arith, ap tag (sym e ∙ f .agree .waiting' w i .1)))
 
-  -- the sleepers of a tick number are not in the queue, which therefore has room for all of them
-  pub woken-room : (n : ℕ) → length (queued (m .queue)) + length (sleepers n (idle m)) ≤ 16
-  woken-room n = omega (arith, length-append queue woken, threads-fit (queue ++ woken) (pairwise-append (λ (a b : ℕ). a ≢ b) queue woken (f .agree .queueOnce) once apart) (λ t i. known t (append-cases queue i)))
+  -- the sleepers are not in the queue, which therefore has room for all of them
+  pub sleepers-room : m .queue .count + m .delays .count ≤ 16
+  sleepers-room =
+      omega (arith, length-queued (m .queue), length-queued (m .delays), length-append queue delays, threads-fit (queue ++ delays) (pairwise-append (λ (a b : ℕ). a ≢ b) queue delays (f .agree .queueOnce) (f .sleeps .delaysOnce) apart) (λ t i. known t (append-cases queue i)))
     where
       queue : List ℕ
       queue = queued (m .queue)
 
-      woken : List ℕ
-      woken = sleepers n (idle m)
+      delays : List ℕ
+      delays = queued (m .delays)
 
-      once : Distinct woken
-      once = pairwise-filter (λ (a b : ℕ). a ≢ b) (λ u. sleepsUntil n (condition (idle m) u)) (queued (m .delays)) (f .sleeps .delaysOnce)
+      apart : (a b : ℕ) → Mem a queue → Mem b delays → a ≢ b
+      apart a b i j e = omega (arith, ap tag (sym (f .agree .queued a i) ∙ ap (condition (idle m)) e ∙ f .sleeps .sleeping b j .1))
 
-      apart : (a b : ℕ) → Mem a queue → Mem b woken → a ≢ b
-      apart a b i j e = omega (arith, ap tag (sym (f .agree .queued a i) ∙ ap (condition (idle m)) e ∙ sleeper n (idle m) b j .1))
-
-      known : (t : ℕ) → Mem t queue ⊎ Mem t woken → t < m .plan .threads
+      known : (t : ℕ) → Mem t queue ⊎ Mem t delays → t < m .plan .threads
       known t (inl i) = queued-known t i
-      known t (inr i) = omega (arith, threads-view (m .plan), f .agree .sized, sleeper n (idle m) t i .0)
+      known t (inr i) = delayed-known t i
+
+  pub delays-fit : m .delays .count ≤ 16
+  delays-fit = omega (arith, sleepers-room)
 
 -- Create: the thread is dormant
 pub create-room : {m : Machine} {t : ℕ} → Creates m t → m .queue .count < 16

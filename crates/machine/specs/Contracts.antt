@@ -1,11 +1,11 @@
 -- What the machine's functions other than the calls ask and answer.
 use mathlib.Core.Path.{_≡_}
 use mathlib.Core.Bool.{Bool, cond, not, _&&_}
-use mathlib.Core.List.{List, [], _∷_, map, tail, List·Memᴰ as Mem}
+use mathlib.Core.List.{List, [], _∷_, _++_, map, tail, List·Memᴰ as Mem}
 use Prim.Native.Nat.{ℕ, _+_, min, _≤_, _<_}
 use lib.Dec.{T, eqb, leb, ltb}
 use lib.ListN.{length}
-use Rattle.model.specs.Searches.{upTo}
+use Rattle.model.specs.Searches.{filter, upTo}
 use Rattle.model.specs.Plan as plan
 use Rattle.model.specs.State as state
 use Rattle.model.specs.Timers.{isComplete}
@@ -25,6 +25,7 @@ use Rattle.clock.specs.View.{numberAt}
 use Rattle.clock.specs.Contracts.{soonest as soonestExpiry}
 use Rattle.machine.specs.declared.Machine.{Machine}
 use Rattle.machine.specs.declared.slots.Slots.{Slots}
+use Rattle.machine.specs.declared.sleepers.Woken.{Woken}
 use Rattle.machine.specs.declared.reports.Report.{Report}
 use Rattle.machine.specs.declared.reports.Reports.{Reports}
 use Rattle.machine.specs.declared.reporting.Reporting.{Reporting}
@@ -39,6 +40,22 @@ placed s t k = record { states = withNibble (s .states) t k; wants = s .wants }
 
 abbrev pub waitsFor : Slots → (thread section : ℕ) → Slots
 waitsFor s t n = record { states = withNibble (s .states) t 3; wants = withNibble (s .wants) t n }
+
+-- these threads become ready
+abbrev pub allPlaced : List ℕ → Slots → Slots
+allPlaced [] s = s
+allPlaced (t ∷ ts) s = allPlaced ts (placed s t 1)
+
+-- whose tick number this is, by the numbers that the sleepers wait for
+abbrev pub wakesAt : (wakes : List Tick) (number thread : ℕ) → Bool
+wakesAt wakes n t = eqb (numberAt wakes t) n
+
+-- what a Tick leaves of the threads: the sleepers whose tick number this is are ready at the queue's end, the others sleep on
+pub record Wakes (r : Woken) (delays : Queue) (wakes : List Tick) (number : ℕ) (slots : Slots) (queue : Queue) : Type 0 where
+  pub slots' : r .slots ≡ allPlaced (filter (wakesAt wakes number) (queued delays)) slots
+  pub queue' : queued (r .queue) ≡ queued queue ++ filter (wakesAt wakes number) (queued delays)
+  pub delays' : queued (r .delays) ≡ filter (λ t. not (wakesAt wakes number t)) (queued delays)
+  pub woken' : queued (r .woken) ≡ filter (wakesAt wakes number) (queued delays)
 
 -- the least tick number that one of these sleepers waits for, lastWake where nobody sleeps before it
 abbrev pub soonest : (wakes : List Tick) (delays : List ℕ) → ℕ

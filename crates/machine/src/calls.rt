@@ -7,10 +7,10 @@ use crate::reporting::Reporting;
 use crate::reports::Made;
 use crate::reports::Reports;
 use crate::rules;
+use crate::sleepers::wake;
 use clock::time::Tick;
 use clock::time::Wait;
 use lists::choice;
-use lists::queue::Queue;
 use plan::lookup::base;
 
 impl Reporting {
@@ -42,33 +42,24 @@ impl Reporting {
         let now = self.machine.tick;
         let number = now.next();
         let wakes = self.machine.wakes;
-        let mut rest = self.machine.delays.items;
-        let mut left = self.machine.delays.count;
-        let mut delays = Queue::none();
-        let mut slots = self.machine.slots;
-        let mut queue = self.machine.queue;
-        let mut woken = Queue::none();
-        while 0 < left {
-            let t = (rest % 16) as u8;
-            rest = rest / 16;
-            left -= 1;
-            let wake = wakes[t as usize];
-            if wake.0 == number.0 {
-                slots = slots.placed(t, 1);
-                queue = queue.push(t);
-                woken = woken.push(t);
-            } else {
-                delays = delays.push(t);
-            }
-        }
         let timers = self.machine.timers;
-        let rs = Reports::expired(timers, number).readied(woken);
+        let w = wake(
+            self.machine.delays,
+            wakes,
+            number,
+            self.machine.slots,
+            self.machine.queue,
+        );
+        let rs = Reports::expired(timers, number).readied(w.woken);
         let later = timers.moved_on(number);
-        let quiet = next_event(delays, wakes, later);
+        let quiet = next_event(w.delays, wakes, later);
         let mut m = self.machine;
         m.tick = number;
+        let slots = w.slots;
         m.slots = slots;
+        let queue = w.queue;
         m.queue = queue;
+        let delays = w.delays;
         m.delays = delays;
         m.timers = later;
         let who = m.chosen(ceilings);

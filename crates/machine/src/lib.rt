@@ -1,6 +1,7 @@
 // The machine that says what a module's kernel does, with all the reports that it owes. It knows nothing of dumps.
 pub mod reports; // reports.rt: reports, and a list of them
 pub mod slots; // slots.rt: the conditions of the threads
+pub mod sleepers; // sleepers.rt: who wakes, and when the next one does
 mod rules; // rules.rt: the questions asked of a record
 pub mod record; // record.rt: a call with its operand, or a report
 pub mod reporting; // reporting.rt: a machine with the reports of its latest call

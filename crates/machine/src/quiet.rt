@@ -3,34 +3,13 @@ ghost use mathlib.Core.Path.{_≡_};
 ghost use Prim.Native.Nat.{_+_, _≤_, _<_};
 ghost use lib.Dec.{ltb};
 ghost use Rattle.model.specs.Formed.{lastTick};
-ghost use Rattle.lists.specs.Lists.{queued};
-ghost use Rattle.machine.specs.Contracts.{soonest, nextEvent, passed, still, later};
+ghost use Rattle.machine.specs.Contracts.{nextEvent, passed, still, later};
 use crate::reporting::Reporting;
+use crate::sleepers::soonest;
 use crate::state::State;
-use clock::time::LAST_WAKE;
 use clock::time::Tick;
 use clock::timers::Timers;
 use lists::queue::Queue;
-
-// The least tick number that one of these sleepers waits for, LAST_WAKE where nobody sleeps before it.
-fn soonest(delays: Queue, wakes: [Tick; 16]) -> Tick
-    requires { ⌜ delays .count ≤ 16 ⌝ }
-    ensures { λ r. ⌜ r .0 ≡ soonest wakes (queued delays) ⌝ }
-{
-    let mut first = LAST_WAKE;
-    let mut rest = delays.items;
-    let mut left = delays.count;
-    while 0 < left {
-        let t = (rest % 16) as usize;
-        rest = rest / 16;
-        left -= 1;
-        let wake = wakes[t];
-        if wake.0 < first.0 {
-            first = wake;
-        }
-    }
-    first
-}
 
 // The tick number before which nobody wakes and no timer expires, 0 inside an arming, where every Tick breaks a rule. It takes the parts that it reads,
 // so that the machine of the walk stays in its fields.

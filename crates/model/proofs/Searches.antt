@@ -224,6 +224,10 @@ module _ {A : Type 0} where
   any-agree f g [] h = refl
   any-agree f g (a ∷ l) h = rw (h a (here refl), any-agree f g l (λ b i. h b (there i)))
 
+  pub filter-agree : (f g : A → Bool) (l : List A) → ((a : A) → Mem a l → f a ≡ g a) → filter f l ≡ filter g l
+  filter-agree f g [] h = refl
+  filter-agree f g (a ∷ l) h = rw (h a (here refl), filter-agree f g l (λ b i. h b (there i)))
+
   pub firstGreatest-agree : (f g : A → ℕ) (l : List A) → ((a : A) → Mem a l → f a ≡ g a) → firstGreatest f l ≡ firstGreatest g l
   firstGreatest-agree f g [] h = refl
   firstGreatest-agree f g (a ∷ l) h = rw (firstGreatest-agree f g l (λ b i. h b (there i))) (ap {B = Option A} some (go (firstGreatest g l) refl))

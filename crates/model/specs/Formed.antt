@@ -1,4 +1,4 @@
--- Answer 12: what is asked of a state that came from outside, in the words of document 01. Such a state need not be one that a run reaches.
+-- Answer 12: what is asked of a state that came from outside, in the words of documents 01 and 02. Such a state need not be one that a run reaches.
 use mathlib.Core.Bool.{Bool, true, not, _&&_, _||_}
 use mathlib.Core.List.{List}
 use mathlib.Core.Option.{Option, none, some}

@@ -9,8 +9,8 @@ use Rattle.lists.specs.Words.{nibbles}
 use Rattle.lists.proofs.Laws.{first, ended}
 use Rattle.clock.specs.declared.time.Tick.{Tick}
 use Rattle.machine.specs.Contracts.{soonest}
-use Rattle.machine.proofs.quiet.soonest.Statement.{statement}
-use Rattle.machine.proofs.quiet.soonest.Tie as tie
+use Rattle.machine.proofs.sleepers.soonest.Statement.{statement}
+use Rattle.machine.proofs.sleepers.soonest.Tie as tie
 
 at-most-last : (wakes : List Tick) (l : List ℕ) → soonest wakes l ≤ lastWake
 at-most-last wakes [] = omega arith
