@@ -1,4 +1,4 @@
--- The known runs once more, as bytes: the whole check answers what document 01 prints.
+-- The known runs once more, as bytes: the whole check answers what the documents say.
 use mathlib.Core.Path.{_≡_, refl, ap}
 use mathlib.Core.Bool.{_&&_}
 use mathlib.Core.List.{List, [], _∷_, map, List·Memᴰ as Mem, List·Memᴰ·head as here, List·Memᴰ·tail as there}
@@ -64,7 +64,7 @@ module _ (r : Run) (m : Mem r runs) where
       (encode-passes (r .of) (omega arith) (omega arith) (r .records) few allowed')
       (rw (plan-read, decode-encode (r .of) (omega arith) (omega arith) (r .records) (omega arith) allowed') verdict')
 
--- Of every known run, written as bytes, the answer is the verdict that document 01 gives it.
+-- Of every known run, written as bytes, the answer is the verdict that the documents give it.
 pub known-bytes : map (λ (r : Run). check (planBytes (r .of)) (encode (r .records))) runs ≡ map (λ (r : Run). judged (r .verdict)) runs
 known-bytes = made-all (λ (r : Run). check (planBytes (r .of)) (encode (r .records))) (λ (r : Run). judged (r .verdict)) runs answers
 
