@@ -4,8 +4,8 @@ ghost use Rattle.dump.specs.Questions.{operandFits};
 ghost use Rattle.dump.specs.Reading.{Reads};
 use crate::layout::Entry;
 use clock::time::Wait;
+use due::reports::Report;
 use machine::record::Record;
-use machine::reports::Report;
 
 // The record of a kind and an operand that questions 7 and 8 let pass.
 pub fn record_of(entry: Entry) -> Record

@@ -23,7 +23,7 @@ use Rattle.lists.specs.Words.{nibble}
 use Rattle.lists.specs.Lists.{queued, held}
 use Rattle.clock.specs.View as timing
 use Rattle.clock.specs.View.{numberAt}
-use Rattle.machine.specs.Lists.{numbered, threadOf}
+use Rattle.due.specs.Lists.{numbered, threadOf}
 use Rattle.machine.specs.View.{conditionOf, conditionsOf, planOf, viewed, idle}
 use Rattle.formed.specs.Contracts.{Counted, namesBy, namesThose, standing}
 use Rattle.formed.proofs.Ranges.{queued-by, waits-by, delayed-by}
@@ -135,10 +135,10 @@ all-both f g (a ∷ l) = ap (λ b. (f a && g a) && b) (all-both f g l) ∙ apart
 
 -- an answer that the code gives, where a question that has the answer No is one of the model's, or where the last one decides
 
-refused : {x f : Bool} → (T f → T x) → false ≡ x → false ≡ f
+pub refused : {x f : Bool} → (T f → T x) → false ≡ x → false ≡ f
 refused {x} {f} h e = sym (is-false f (not-T f (λ t. T-not x (from-false x (sym e)) (h t))))
 
-decided : {x f r : Bool} → (T x → T f) → (T f → T x) → r ≡ x → r ≡ f
+pub decided : {x f r : Bool} → (T x → T f) → (T f → T x) → r ≡ x → r ≡ f
 decided {x} {f} there' back e = e ∙ go (split x)
   where
     go : T x ⊎ T (not x) → x ≡ f

@@ -1,34 +1,38 @@
--- The reports due that came from outside: which entries are reports of the papers', the laws of a loop over those still to be given, and what decides where
--- some are due, or none.
-use mathlib.Core.Path.{_≡_, ap, ap₂, sym, _∙_}
-use mathlib.Core.Logic.{_⊎_, inl, inr, _≢_}
-use mathlib.Core.Bool.{Bool, true, false, not, _&&_, _||_}
-use mathlib.Core.List.{List, [], _∷_, map}
-use Prim.Native.Nat.{ℕ, zero, suc, _+_, _-_, _≤_, _<_}
+-- The reports due that came from outside: which entries are reports of the papers', and what decides where some are due, or none.
+use mathlib.Core.Path.{_≡_, refl, ap, ap₂, sym, _∙_}
+use mathlib.Core.Logic.{_≢_}
+use mathlib.Core.Bool.{Bool, true, false, _&&_}
+use mathlib.Core.List.{List, [], _∷_}
+use Prim.Native.Nat.{ℕ, _+_, _-_, _≤_, _<_}
 use native.Mathlib.Omega.{arith}
 use borrow.Author.Tests.{le-leb, lt-leb, le-ltb, ne-eqb}
-use lib.Dec.{T, leb, ltb, leb→le, not-T}
-use lib.ListN.{length, getD, drop, length-drop, drop-of-length-le, List·getD-eq-default}
-use Rattle.model.specs.Searches.{all, countFrom, isEmpty, upTo, same}
+use lib.Dec.{T, leb, ltb, leb→le, le→leb, not-T}
+use lib.ListN.{length, getD, drop, length-drop}
+use Rattle.model.specs.Searches.{all, upTo}
 use Rattle.model.specs.Plan.{threads}
 use Rattle.model.specs.Records as records
 use Rattle.model.specs.Records.{timerCount, Yield, nobody, report, allowed}
-use Rattle.model.specs.Priorities.{chosen}
-use Rattle.model.specs.Formed.{dueInRange, shownAtRest, formedMachine, formedReports, formed}
-use Rattle.model.proofs.Tests.{is-false, and-left, and-right, equal?}
+use Rattle.model.specs.State.{withoutSwitch}
+use Rattle.model.specs.Formed.{times, shownAtRest, switchLast, owedNone, claims, formedMachine, formedReports, formed}
+use Rattle.model.proofs.Tests.{is-false, from-true, and-left, and-right, and-both}
+use Rattle.model.proofs.Searches.{all-at}
+use Rattle.model.proofs.Loops.{and-true}
+use Rattle.model.proofs.Laws.{rest-claims}
 use Rattle.plan.specs.declared.Plan.{Plan}
 use Rattle.plan.specs.View.{Fits, view}
-use Rattle.model.proofs.Loops.{left, turn, done, and-true}
 use Rattle.plan.proofs.Laws.{threads-view}
-use Rattle.machine.specs.declared.reports.Report.{Report}
-use Rattle.machine.specs.declared.reports.Reports.{Reports}
+use Rattle.lists.proofs.Laws.{length-queued}
+use Rattle.clock.specs.View as timing
+use Rattle.due.specs.declared.reports.Report.{Report}
+use Rattle.due.specs.declared.reports.Reports.{Reports}
+use Rattle.due.specs.Lists.{reportRoom, reportOf, IsReport, noReport, owed}
+use Rattle.due.proofs.Laws.{by-kind, is-report, length-owed, none-due, in-due, within}
+use Rattle.machine.specs.declared.Machine.{Machine}
 use Rattle.machine.specs.declared.state.State.{State}
-use Rattle.machine.specs.Lists.{reportRoom, reportOf, noReport, owed, threadOf}
 use Rattle.machine.specs.View as machines
 use Rattle.machine.specs.View.{planOf, viewed, idle}
-use Rattle.machine.specs.Contracts.{IsReport}
-use Rattle.machine.proofs.Laws.{by-kind, length-owed}
-use Rattle.formed.proofs.Outside.{second-asked, no-right, whatever-due}
+use Rattle.machine.proofs.Laws.{machine-facts}
+use Rattle.formed.proofs.Outside.{second-asked, refused, decided, whatever-due}
 
 -- an entry is a report of the papers': a Switch to nobody, the Expire of a timer, a Late of two bytes, or of a kind from 16 to 20 that names a thread
 module _ (p : Plan) (r : Report) where
@@ -68,119 +72,127 @@ module _ (p : Plan) (r : Report) where
       (λ e. rw (e, threads-view p)) (λ e. rw (e, ne-eqb (r .operand) nobody (d e), threads-view p)) (λ e. rw (e, threads-view p)) (λ e. rw (e, threads-view p)) (λ e. rw (e, threads-view p))
       (λ e. absurd (i e)) (λ e. absurd (l e)) (unknown fits)
 
--- those behind the first ones of a list made by counting
+-- those still to be given, where some are
+module _ (m : Machine) (rs : Reports) (given : ℕ) (some-due : given < rs .count) where
+  abbrev due' : List records.Report
+  due' = drop given (owed rs)
 
-behind-from : {A : Type 0} (f : ℕ → A) (g i n : ℕ) → drop g (map f (countFrom i n)) ≡ map f (countFrom (g + i) (n - g))
-behind-from f zero i n =
-    let a : i ≡ 0 + i = omega arith in
-    let b : n ≡ n - 0 = omega arith in
-    ap₂ (λ (j k : ℕ). map f (countFrom j k)) a b
-behind-from f (suc g) i zero = let b : 0 ≡ 0 - suc g = omega arith in ap (λ k. map f (countFrom (suc g + i) k)) b
-behind-from f (suc g) i (suc n) =
-    let a : g + suc i ≡ suc g + i = omega arith in
-    let b : n - g ≡ suc n - suc g = omega arith in
-    behind-from f g (suc i) n ∙ ap₂ (λ (j k : ℕ). map f (countFrom j k)) a b
+  abbrev few : Bool
+  few = leb (length due') (threads (planOf m) + 9)
 
-pub behind : {A : Type 0} (f : ℕ → A) (g n : ℕ) → drop g (map f (upTo n)) ≡ map f (left g n)
-behind f g n = let a : g + 0 ≡ g = omega arith in behind-from f g 0 n ∙ ap (λ k. map f (countFrom k (n - g))) a
+  abbrev known : Bool
+  known = all (λ d. allowed (view (m .plan)) (report d)) due'
 
--- a loop that asks whether all behind the first `given` pass
-module _ {A : Type 0} (f : A → Bool) (g : ℕ → A) (given n : ℕ) where
-  abbrev pub AllBehind : ℕ → Type 0
-  AllBehind i = all f (map g (left i n)) ≡ all f (drop given (map g (upTo n)))
+  abbrev last : Bool
+  last = switchLast due'
 
-  pub behind-begin : AllBehind given
-  behind-begin = ap (all f) (sym (behind g given n))
+  abbrev room : Bool
+  room = leb (claims (viewed m due')) (threads (planOf m) + 9)
 
-  module _ (i : ℕ) (k : i < n) (inv : AllBehind i) where
-    turned : f (g i) && all f (map g (left (i + 1) n)) ≡ all f (drop given (map g (upTo n)))
-    turned = sym (turn (λ l. all f (map g l)) n i k) ∙ inv
+  abbrev shown' : Bool
+  shown' = shownAtRest (planOf m) (viewed m due')
 
-    pub behind-passed : f (g i) ≡ true → AllBehind (i + 1)
-    behind-passed e = rw e at turned
-
-    pub behind-failed : f (g i) ≡ false → all f (drop given (map g (upTo n))) ≡ false
-    behind-failed e = sym (rw e at turned)
-
-  pub behind-all : (i : ℕ) → n ≤ i → AllBehind i → all f (drop given (map g (upTo n))) ≡ true
-  behind-all i k inv = sym inv ∙ done (λ l. all f (map g l)) n i k
-
-fails-from : {A : Type 0} (f : A → Bool) (g : ℕ → A) (i n k : ℕ) → i ≤ k → k < i + n → f (g k) ≡ false → all f (map g (countFrom i n)) ≡ false
-fails-from f g i zero k a b e = absurd (omega arith)
-fails-from f g i (suc n) k a b e = go (equal? k i) (λ d. fails-from f g (suc i) n k (omega arith) (omega arith) e)
-  where
-    go : (k ≡ i) ⊎ (k ≢ i) → (k ≢ i → all f (map g (countFrom (suc i) n)) ≡ false) → all f (map g (countFrom i (suc n))) ≡ false
-    go (inl q) rest = let z : f (g i) ≡ false = ap (λ j. f (g j)) (sym q) ∙ e in rw z
-    go (inr d) rest = sym (no-right (f (g i)) (sym (rest d)))
-
--- one of them that fails
-pub behind-fails : {A : Type 0} (f : A → Bool) (g : ℕ → A) (given n k : ℕ) → given ≤ k → k < n → f (g k) ≡ false → all f (drop given (map g (upTo n))) ≡ false
-behind-fails f g given n k a b e = ap (all f) (behind g given n) ∙ fails-from f g given (n - given) k a (omega arith) e
-
--- those still to be given: at most T + 9, each a report of the papers'
-module _ (p : Plan) (rs : Reports) (given : ℕ) where
-  abbrev pub Passes : Bool → Type 0
-  Passes b = b ≡ dueInRange (view p) (drop given (owed rs))
-
-  still-due : length (drop given (owed rs)) ≡ rs .count - given
+  still-due : length due' ≡ rs .count - given
   still-due = length-drop given (owed rs) ∙ ap (λ n. n - given) (length-owed rs)
 
-  abbrev AllAllowed : Bool → Type 0
-  AllAllowed b = all (λ d. allowed (view p) (report d)) (drop given (owed rs)) ≡ b
+  -- the thread reported is not asked for
+  not-asked : T shown'
+  not-asked = go due' (omega (arith, still-due))
+    where
+      go : (l : List records.Report) → 0 < length l → T (shownAtRest (planOf m) (viewed m l))
+      go [] k = absurd (omega arith)
+      go (d ∷ l) k = tt
 
-  pub none-due : rs .count ≤ given → Passes true
-  none-due h = rw (drop-of-length-le (owed rs) {i = given} (omega (arith, length-owed rs))) (sym (ap (λ b. b && true) (le-leb 0 (threads (view p) + 9) (omega arith))))
+  -- the questions in the model's order
+  record Asked : Type 0 where
+    few' : T few
+    known' : T known
+    last' : T last
+    room' : T room
 
-  pub too-many : p .threads + 9 < rs .count - given → Passes false
-  too-many h = rw (lt-leb (length (drop given (owed rs))) (threads (view p) + 9) (omega (arith, still-due, threads-view p)))
+  abbrev passes : Bool
+  passes = formedReports (planOf m) (viewed m due')
 
-  pub one-refused : AllAllowed false → Passes false
-  one-refused e = no-right (leb (length (drop given (owed rs))) (threads (view p) + 9)) (sym e)
+  asks : T passes → Asked
+  unfolding formedReports
+  asks t =
+      let three = and-left (few && known && shown' && last) room t in
+      let two = and-left (few && known && shown') last three in
+      let one = and-left (few && known) shown' two in
+      record { few' = and-left few known one; known' = and-right few known one; last' = and-right (few && known && shown') last three; room' = and-right (few && known && shown' && last) room t }
 
-  pub all-allowed : rs .count - given ≤ p .threads + 9 → AllAllowed true → Passes true
-  all-allowed h e = rw (le-leb (length (drop given (owed rs))) (threads (view p) + 9) (omega (arith, still-due, threads-view p)), e)
+  asked-all : T few → T known → T last → T room → T passes
+  unfolding formedReports
+  asked-all a b c d = and-both (few && known && shown' && last) room (and-both (few && known && shown') last (and-both (few && known) shown' (and-both few known a b) not-asked) c) d
+
+  -- the answer that the code gives
+  abbrev Passes : Bool → Type 0
+  Passes r = r ≡ passes
+
+  pub too-many : m .plan .threads + 9 < rs .count - given → Passes false
+  too-many h = refused (λ t. asks t .few') (sym (lt-leb (length due') (threads (planOf m) + 9) (omega (arith, still-due, threads-view (m .plan)))))
+
+  pub one-refused : false ≡ known → Passes false
+  one-refused e = refused (λ t. asks t .known') e
+
+  pub not-last : false ≡ last → Passes false
+  not-last e = refused (λ t. asks t .last') e
 
   -- an entry past the array's end stands for no report
-  pub past-end : Fits p → length (rs .items) ≡ reportRoom → given < rs .count → reportRoom < rs .count → Passes false
-  past-end fits z a b = one-refused (behind-fails (λ d. allowed (view p) (report d)) entry given (rs .count) last (omega arith) (omega arith) refused)
+  pub past-end : Fits (m .plan) → length (rs .items) ≡ reportRoom → reportRoom < rs .count → Passes false
+  past-end fits z b = one-refused (sym (is-false known (not-T known (λ t. omega (arith, is t)))))
     where
-      entry : ℕ → records.Report
-      entry i = reportOf (getD (rs .items) i noReport)
+      entry : ℕ → Report
+      entry i = getD (rs .items) i noReport
 
-      last : ℕ
-      last = rs .count - 1
+      end : ℕ
+      end = rs .count - 1
 
-      refused : allowed (view p) (report (entry last)) ≡ false
-      refused = rw (List·getD-eq-default (rs .items) noReport {n = last} (omega arith), threads-view p) (le-ltb nobody (p .threads) (omega (arith, fits .threads)))
+      is : T known → end < reportRoom
+      is t =
+          within (rs .items) end z
+          (is-report (entry end) (view (m .plan)) (omega (arith, threads-view (m .plan), fits .threads)) (all-at (λ d. allowed (view (m .plan)) (report d)) due' t (in-due entry (rs .count) given end (omega arith) (omega arith))))
+
+  -- where all before it pass, what has a claim on the room decides
+  pub room-decides : {r : Bool} → rs .count - given ≤ m .plan .threads + 9 → known ≡ true → last ≡ true
+      → r ≡ leb (length (withoutSwitch due') + m .delays .count + times (owedNone (timing.view (m .timers)) due') (upTo timerCount) + 1) (m .plan .threads + 9)
+      → Passes r
+  room-decides {r} a b c e =
+      decided (asked-all (le→leb (length due') (threads (planOf m) + 9) (omega (arith, a, still-due, threads-view (m .plan)))) (from-true known b) (from-true last c)) (λ t. asks t .room')
+      (e
+      ∙ ap₂ (λ d n. leb (length (withoutSwitch due') + d + times (owedNone (timing.view (m .timers)) due') (upTo timerCount) + 1) (n + 9)) (sym (length-queued (m .delays))) (sym (threads-view (m .plan))))
 
 -- behind the machine what is due decides
 module _ (s : State) where
-  abbrev due' : List records.Report
-  due' = drop (s .given) (owed (s .due))
-
   -- the answer that the code gives
   abbrev IsFormed : Bool → Type 0
   IsFormed r = r ≡ formed (planOf (s .machine)) (machines.view s)
 
   pub not-formed : false ≡ formedMachine (planOf (s .machine)) (idle (s .machine)) → IsFormed false
   unfolding formed
-  not-formed e = ap (λ b. b && formedReports (planOf (s .machine)) (machines.view s)) (e ∙ sym (whatever-due (s .machine) due'))
+  not-formed e = ap (λ b. b && formedReports (planOf (s .machine)) (machines.view s)) (e ∙ sym (whatever-due (s .machine) (machines.view s .due)))
 
   module _ (e : formedMachine (planOf (s .machine)) (idle (s .machine)) ≡ true) where
-    decides : {r : Bool} → r ≡ dueInRange (planOf (s .machine)) due' && shownAtRest (planOf (s .machine)) (machines.view s) → IsFormed r
-    unfolding formed formedReports
-    decides q = second-asked (formedMachine (planOf (s .machine)) (machines.view s)) _ (whatever-due (s .machine) due' ∙ e) q
+    pub with-due : {r : Bool} → r ≡ formedReports (planOf (s .machine)) (machines.view s) → IsFormed r
+    unfolding formed
+    with-due q = second-asked (formedMachine (planOf (s .machine)) (machines.view s)) _ (whatever-due (s .machine) (machines.view s .due) ∙ e) q
 
     -- with nothing due the thread reported does
     pub at-rest : s .due .count ≤ s .given → {r : Bool} → r ≡ shownAtRest (planOf (s .machine)) (idle (s .machine)) → IsFormed r
-    at-rest h q =
-        let none : due' ≡ [] = drop-of-length-le (owed (s .due)) {i = s .given} (omega (arith, length-owed (s .due))) in
-        decides (q ∙ sym (ap₂ (λ a l. a && shownAtRest (planOf (s .machine)) (viewed (s .machine) l)) (sym (none-due (s .machine .plan) (s .due) (s .given) h)) none))
-
-    -- and else the reports do
-    pub with-due : s .given < s .due .count → {r : Bool} → r ≡ dueInRange (planOf (s .machine)) due' → IsFormed r
-    with-due h {r} q = decides (q ∙ some-due due' (omega (arith, still-due (s .machine .plan) (s .due) (s .given))))
+    unfolding formedReports
+    at-rest h q = with-due (q ∙ at-once ∙ ap (λ l. formedReports (planOf (s .machine)) (viewed (s .machine) l)) (sym none))
       where
-        some-due : (l : List records.Report) → 0 < length l → dueInRange (planOf (s .machine)) l ≡ dueInRange (planOf (s .machine)) l && (not (isEmpty l) || same (threadOf (s .machine .reported)) (chosen (planOf (s .machine)) (machines.view s)))
-        some-due [] k = absurd (omega arith)
-        some-due (d ∷ l) k = sym (and-true (dueInRange (planOf (s .machine)) (d ∷ l)))
+        none : machines.view s .due ≡ []
+        none = none-due (λ i. getD (s .due .items) i noReport) (s .due .count) (s .given) h
+
+        shown' : Bool
+        shown' = shownAtRest (planOf (s .machine)) (idle (s .machine))
+
+        few : leb 0 (threads (planOf (s .machine)) + 9) ≡ true
+        few = le-leb 0 (threads (planOf (s .machine)) + 9) (omega arith)
+
+        room : leb (claims (idle (s .machine))) (threads (planOf (s .machine)) + 9) ≡ true
+        room = le-leb (claims (idle (s .machine))) (threads (planOf (s .machine)) + 9) (rest-claims (planOf (s .machine)) (idle (s .machine)) (machine-facts (s .machine) (from-true _ e)) refl)
+
+        at-once : shown' ≡ formedReports (planOf (s .machine)) (idle (s .machine))
+        at-once = sym (ap₂ (λ a b. a && true && shown' && true && b) few room ∙ and-true (shown' && true) ∙ and-true shown')

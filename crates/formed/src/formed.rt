@@ -107,5 +107,5 @@ pub fn formed(state: State) -> bool
     if due.count <= state.given {
         return shown(m);
     }
-    reports::in_range(due, state.given, m.plan)
+    reports::formed(due, state.given, m)
 }

@@ -12,7 +12,7 @@ use Rattle.model.specs.Searches.{all}
 use Rattle.model.specs.Plan.{threads}
 use Rattle.model.specs.Records.{Call, Record, call, report, allowedCall, allowed}
 use Rattle.model.specs.Runs.{clean, judge, Clean}
-use Rattle.model.specs.Bench.{bench, callsOf, Complete}
+use Rattle.model.specs.Bench.{bench, callsOf, Complete, Rested}
 use Rattle.model.proofs.Tests.{and-left, and-right, and-both}
 use Rattle.model.proofs.Laws.{clean-count, bench-clean, clean-is-bench}
 use Rattle.plan.specs.Bytes as plans
@@ -80,7 +80,7 @@ module _ (plan : List ℕ) where
 
 -- from the answer that n records are written to the dump in front
 module _ {plan list out : List ℕ} {n : ℕ} (w : Wrote plan list out n) where
-  benched : (c : Clean (planOf plan) (w .records)) × (c .due ≡ 0) × (callsOf (w .records) ≡ callsOf (decode list)) × Complete (planOf plan) (w .records)
+  benched : (c : Clean (planOf plan) (w .records)) × (c .due ≡ 0) × (callsOf (w .records) ≡ callsOf (decode list)) × Complete (planOf plan) (w .records) × Rested (planOf plan) (w .records)
   unfolding made
   benched =
       bench-clean (planOf plan) (callsOf (decode list)) (w .records) (refusal-none-valid plan (w .plan-yes))
@@ -106,15 +106,18 @@ module _ {plan list out : List ℕ} {n : ℕ} (w : Wrote plan list out n) where
   pub dump-complete : Complete (planOf plan) (decode (take (bytesFor n) (output plan list out)))
   dump-complete = subst (Complete (planOf plan)) (sym read-back) (benched .3)
 
+  pub dump-rested : Rested (planOf plan) (decode (take (bytesFor n) (output plan list out)))
+  dump-rested = subst (Rested (planOf plan)) (sym read-back) (benched .4)
+
   pub dump-calls : callsOf (decode (take (bytesFor n) (output plan list out))) ≡ callsOf (decode list)
   dump-calls = ap callsOf read-back ∙ benched .2
 
--- and back, from a clean dump with nothing due and no arming in progress: its calls as a call list
+-- and back, from a clean dump with nothing due and no arming in progress, each call with nothing due before it: its calls as a call list
 abbrev pub callList : (dump : List ℕ) → List ℕ
 callList dump = encode (map call (callsOf (decode dump)))
 
 module _ (plan dump out : List ℕ) (n : ℕ) (plan-yes : plans.refusal plan ≡ none) (dump-yes : dumps.refusal (threadCount plan) (sectionCount plan) false dump ≡ none)
-    (verdict : judge (planOf plan) (decode dump) ≡ clean n 0) (complete : Complete (planOf plan) (decode dump)) (room : length dump ≤ length out) where
+    (verdict : judge (planOf plan) (decode dump) ≡ clean n 0) (complete : Complete (planOf plan) (decode dump)) (rested : Rested (planOf plan) (decode dump)) (room : length dump ≤ length out) where
   abbrev ks : List Call
   ks = callsOf (decode dump)
 
@@ -137,7 +140,7 @@ module _ (plan dump out : List ℕ) (n : ℕ) (plan-yes : plans.refusal plan ≡
   makes =
       ap (λ (l : List Record). bench (planOf plan) (callsOf l))
       (decode-encode (planOf plan) (few-threads plan plan-yes) (few-sections plan plan-yes) (map call ks) (omega (arith, few-calls)) allowed-calls)
-      ∙ ap (bench (planOf plan)) (own-calls ks) ∙ clean-is-bench (planOf plan) (decode dump) n verdict complete
+      ∙ ap (bench (planOf plan)) (own-calls ks) ∙ clean-is-bench (planOf plan) (decode dump) n verdict complete rested
 
   same-records : recordsOf (made plan (callList dump)) ≡ decode dump
   same-records = ap recordsOf makes

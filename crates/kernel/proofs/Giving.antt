@@ -1,24 +1,26 @@
 -- Giving the reports due, one after another: while one is due the state stays well formed, and in the end all are given.
 use mathlib.Core.Path.{_≡_, refl, ap, sym, subst, _∙_}
 use mathlib.Core.List.{List, [], _∷_, tail, List·Memᴰ as Mem, List·Memᴰ·head as here, List·Memᴰ·tail as there}
+use mathlib.Core.Bool.{not, _||_}
 use mathlib.Core.Option.{Option, some}
 use Prim.Native.Nat.{ℕ, _≤_, _<_}
 use native.Mathlib.Omega.{arith}
 use lib.Dec.{T, ltb→lt}
 use lib.ListN.{length}
-use Rattle.model.specs.Searches.{_▷_}
+use Rattle.model.specs.Searches.{_▷_, isEmpty}
 use Rattle.model.specs.Plan.{Plan, threads}
-use Rattle.model.specs.Records.{Report, Ready, Switch, Won, Lost, Yield, Expire, Late, report, isThread, allowed}
+use Rattle.model.specs.Records.{Report, Ready, Switch, Won, Lost, Yield, Expire, Late, report, isSwitch, isThread, allowed}
 use Rattle.model.specs.State.{State, switchedTo, latestSwitch, setReported, setDue}
 use Rattle.model.specs.Runs.{deliver}
-use Rattle.model.specs.Formed.{formed}
+use Rattle.model.specs.Formed.{switchLast, formed}
 use Rattle.model.specs.Bench.{deliverAll}
-use Rattle.model.proofs.Laws.{WellFormed, passes-all, given-none}
+use Rattle.model.proofs.Tests.{and-right}
+use Rattle.model.proofs.Laws.{WellFormed, passes-all, claims-given, given-none}
 use Rattle.plan.specs.View as plans
 use Rattle.plan.specs.declared.Plan as declared
 use Rattle.machine.specs.declared.state.State as code
-use Rattle.machine.specs.declared.reports.Report as reports
-use Rattle.machine.specs.Lists.{reportOf}
+use Rattle.due.specs.declared.reports.Report as reports
+use Rattle.due.specs.Lists.{reportOf}
 use Rattle.machine.specs.View.{planOf, view}
 use Rattle.machine.proofs.Laws.{formed-facts}
 use Rattle.machine.specs.Contracts.{Owes, FirstDue, Delivers}
@@ -58,6 +60,8 @@ module _ (p : Plan) (st : State) (d : Report) (q : st .due ≡ d ∷ tail (st .d
         few = omega (arith, w .few, ap length q);
         known = λ r m. w .known r (subst (λ l. Mem r l) (sym q) (there m));
         shown' = λ e. absurd (omega (arith, h, ap length e));
+        last = and-right (not (isSwitch d) || isEmpty (tail (st .due))) (switchLast (tail (st .due))) (subst (λ l. T (switchLast l)) q (w .last));
+        room = omega (arith, claims-given st d (tail (st .due)) q, w .room);
       }
 
   -- and once all are given it is the same state

@@ -6,11 +6,11 @@ use native.Mathlib.Omega.{arith}
 use lib.ListN.{length, length-set}
 use Rattle.model.specs.Records.{Report, report}
 use Rattle.machine.specs.declared.state.State.{State}
-use Rattle.machine.specs.declared.reports.Report as code
-use Rattle.machine.specs.Lists.{reportOf}
+use Rattle.due.specs.declared.reports.Report as code
+use Rattle.due.specs.Lists.{reportOf}
 use Rattle.machine.specs.View.{view}
 use Rattle.machine.specs.Contracts.{FirstDue, Delivers}
-use Rattle.machine.proofs.Laws.{kind-is}
+use Rattle.due.proofs.Laws.{kind-is}
 use Rattle.dump.specs.Layout.{kindOf, operandOf}
 use Rattle.kernel.specs.Contracts.{recordPut, recordsPut, ReportsFit, Places}
 use Rattle.kernel.proofs.ReportBytes.{operand-is}

@@ -5,10 +5,9 @@ use borrow.Author.Tests.{ne-eqb}
 use Prim.Native.Nat.{ℕ}
 use Rattle.model.specs.Records.{report, nobody, operandNumber, operandThread}
 use Rattle.model.proofs.Tests.{equal?}
-use Rattle.machine.specs.declared.reports.Report.{Report}
-use Rattle.machine.specs.Lists.{reportOf}
-use Rattle.machine.specs.Contracts.{IsReport}
-use Rattle.machine.proofs.Laws.{by-kind}
+use Rattle.due.specs.declared.reports.Report.{Report}
+use Rattle.due.specs.Lists.{reportOf, IsReport}
+use Rattle.due.proofs.Laws.{by-kind}
 use Rattle.dump.specs.Layout.{operandOf}
 
 -- the thread that a Switch names, and back

@@ -1,4 +1,4 @@
--- What is asked of the machine of each call with nothing due, what its rules say where it breaks none, and what it makes before its Switch.
+-- What is asked of the machine of each call, what its rules say where it breaks none, and what it makes before its Switch.
 use mathlib.Core.Path.{_≡_, refl, ap, ap₂, sym, _∙_}
 use mathlib.Core.List.{[]}
 use mathlib.Core.Option.{Option, some}
@@ -14,8 +14,8 @@ use Rattle.model.specs.Rules.{holdsNot, lastTaken, stage, broken}
 use Rattle.model.specs.Formed.{lastTick}
 use Rattle.lists.specs.Lists.{numbered}
 use Rattle.machine.specs.declared.Machine.{Machine}
-use Rattle.machine.specs.declared.reports.Reports.{Reports}
-use Rattle.machine.specs.Lists.{owed}
+use Rattle.due.specs.declared.reports.Reports.{Reports}
+use Rattle.due.specs.Lists.{owed}
 use Rattle.machine.specs.View.{planOf, viewed, idle}
 use Rattle.machine.specs.Rules.{ruleNumber}
 use Rattle.machine.proofs.Facts.{Formed}
@@ -37,7 +37,7 @@ pub record SectionAsked (m : Machine) (caller section : ℕ) : Type 0 where
   pub known : section < m .plan .sections
 
 -- the tick number has room to grow
-pub record Ticks (m : Machine) : Type 0 where
+pub record TickAsked (m : Machine) : Type 0 where
   pub formed : Formed m
   pub ordered : stage (idle m .timers .arming) ≡ 0
   pub room : m .tick .0 < lastTick
@@ -75,12 +75,16 @@ pub record Meets (left : Machine) (rs : Reports) (m : Machine) (st : state.State
   pub plan' : left .plan ≡ m .plan
   pub seen : viewed left (owed rs) ≡ st
 
--- The first broken rule, 0 if there is none; then what the model's call makes, or the machine as it came, with nothing due.
-pub record Makes (left : Machine) (rs : Reports) (rule : ℕ) (m : Machine) (k : Call) : Type 0 where
+-- The first broken rule, 0 if there is none; then what the model's call makes of the state that came, or this state.
+pub record MakesOf (st : state.State) (left : Machine) (rs : Reports) (rule : ℕ) (m : Machine) (k : Call) : Type 0 where
   pub plan' : left .plan ≡ m .plan
-  pub rule' : rule ≡ asked m k
-  pub made : rule ≡ 0 → viewed left (owed rs) ≡ perform (planOf m) k (idle m)
-  pub kept : (rule ≡ 0 → ⊥) → viewed left (owed rs) ≡ idle m
+  pub rule' : rule ≡ ruleNumber (broken (planOf m) st (call k))
+  pub made : rule ≡ 0 → viewed left (owed rs) ≡ perform (planOf m) k st
+  pub kept : (rule ≡ 0 → ⊥) → viewed left (owed rs) ≡ st
+
+-- calls other than Tick come with nothing due
+abbrev pub Makes : (left : Machine) (rs : Reports) (rule : ℕ) (m : Machine) (k : Call) → Type 0
+Makes left rs rule m k = MakesOf (idle m) left rs rule m k
 
 same : {left left' : Machine} {rs rs' : Reports} {m : Machine} {st : state.State} → left ≡ left' → rs ≡ rs' → Meets left' rs' m st → Meets left rs m st
 same a b w = record { plan' = ap (λ (x : Machine). x .plan) a ∙ w .plan'; seen = ap₂ (λ (x : Machine) (l : Reports). viewed x (owed l)) a b ∙ w .seen }

@@ -10,27 +10,28 @@ use lib.Dec.{T}
 use lib.ListN.{length, length-append, length-map}
 use Rattle.model.specs.Searches.{_▷_, filter, upTo, without}
 use Rattle.model.specs.Plan.{base, ceiling, validPlan}
-use Rattle.model.specs.Records.{timerCount, TimerCall, Arm, Start, Period, Cancel, Ready, Won, Lost, Yield, Expire}
-use Rattle.model.specs.Timers.{Timers, slot, lateDue, expiresAt, expired}
+use Rattle.model.specs.Records.{TimerCall, Arm, Start, Period, Cancel, Report, Ready, Won, Lost, Yield}
+use Rattle.model.specs.Timers.{Timers, lateDue}
 use Rattle.model.specs.State.{Condition, dormant, asleep, waiting, State, condition, latestSwitch, lastReported, becomes, leaveQueue, joinQueue, arrive, joinWaits, leaveWaits, isHold, beginHold, endHold, owe}
 use Rattle.model.specs.Calls.{create, sleepsUntil, sleepers, tick, delay, rivalled, relinquish, end, aboveAll, heldByOthers, take, wanted, heir, handOver, give, timing}
 use Rattle.model.proofs.Searches.{greatest-is, stayed, distinct-without}
 use Rattle.model.proofs.Loops.{filter-few}
-use Rattle.model.proofs.Laws.{sleeper}
+use Rattle.model.specs.Formed.{claims}
+use Rattle.model.proofs.Laws.{sleeper, tick-claims, tick-reported}
 use Rattle.plan.specs.View as plans
 use Rattle.plan.specs.declared.Plan.{Plan}
 use Rattle.plan.proofs.Laws.{threads-view}
 use Rattle.machine.specs.declared.Machine.{Machine}
-use Rattle.machine.specs.declared.reports.Reports.{Reports}
+use Rattle.due.specs.declared.reports.Reports.{Reports}
 use Rattle.lists.specs.Lists.{queued, held}
-use Rattle.machine.specs.Lists.{reportRoom}
-use Rattle.machine.specs.View.{planOf, idle}
+use Rattle.due.specs.Lists.{reportRoom}
+use Rattle.due.proofs.Laws.{length-owed}
+use Rattle.machine.specs.View.{planOf, viewed, idle}
 use Rattle.machine.specs.Contracts.{Ceilings, Chooses}
-use Rattle.machine.proofs.Admitted.{Ticks, Creates, Runs, Takes, Gives, Meets}
+use Rattle.machine.proofs.Admitted.{TickAsked, Creates, Runs, Takes, Gives, Meets}
 use Rattle.machine.proofs.Switched.{Settles}
 use Rattle.machine.proofs.Facts.{Formed, Facts, facts}
 use Rattle.lists.proofs.Laws.{length-queued, length-held}
-use Rattle.machine.proofs.Views.{length-owed}
 use Rattle.machine.proofs.Room.{waiting-known, threads-fit, waiting-room, sleepers-room, delays-fit, create-room, caller-known, without-room, waits-room, take-room, give-room}
 use Rattle.machine.proofs.Chosen.{listed}
 
@@ -93,22 +94,12 @@ created {m} {t} c =
       last = refl;
     }
 
--- Expire and Ready are no Switch
-
-all-ready : (w : Option ℕ) (ts : List ℕ) → latestSwitch w (map Ready ts) ≡ w
-all-ready w [] = refl
-all-ready w (t ∷ ts) = all-ready w ts
-
-none-switched : (w : Option ℕ) (is ts : List ℕ) → latestSwitch w (map Expire is ++ map Ready ts) ≡ w
-none-switched w [] ts = all-ready w ts
-none-switched w (i ∷ is) ts = none-switched w is ts
-
-pub ticked : {m : Machine} → Ticks m → After (m .plan .threads) (tick (idle m))
+-- what has a claim on the room for reports finds it
+pub ticked : {m : Machine} → TickAsked m → (due : List Report) → claims (viewed m due) ≤ m .plan .threads + 9 → After (m .plan .threads) (tick (viewed m due))
 unfolding tick
-ticked {m} c =
+ticked {m} c due room =
     let f = facts (c .formed) in
     let woken = sleepers (suc (m .tick .0)) (idle m) in
-    let ended = expired (suc (m .tick .0)) (idle m .timers) in
     let fewer = filter-few (λ t. sleepsUntil (suc (m .tick .0)) (condition (idle m) t)) (queued (m .delays)) in
     record {
       queue' = omega (arith, length-append (queued (m .queue)) woken, fewer, length-queued (m .queue), length-queued (m .delays), sleepers-room f);
@@ -116,8 +107,8 @@ ticked {m} c =
       waits' = before f .waits';
       known = known-more (m .plan .threads) (queued (m .queue)) woken (before f .known) (λ t i. omega (arith, sleeper (suc (m .tick .0)) (idle m) t i .0, f .agree .sized, threads-view (m .plan)));
       waiting' = before f .waiting';
-      few = omega (arith, length-append (map Expire ended) (map Ready woken), length-map ended Expire, length-map woken Ready, filter-few (λ i. expiresAt (suc (m .tick .0)) (slot (idle m .timers) i)) (upTo timerCount), fewer, length-queued (m .delays), delays-fit f);
-      last = none-switched (idle m .reported) ended woken;
+      few = omega (arith, tick-claims (viewed m due), room, f .fits .threads);
+      last = tick-reported (viewed m due);
     }
 
 module _ {m : Machine} {x : ℕ} (r : Runs m x) where

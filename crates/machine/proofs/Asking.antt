@@ -1,7 +1,8 @@
 -- The rule functions answer what the model asks of each call with nothing due; where the answer is 0, what the call's rules say holds.
 use mathlib.Core.Path.{_≡_, refl, ap, sym, subst, _∙_}
-use mathlib.Core.Bool.{Bool, cond}
-use mathlib.Core.Option.{Option, some}
+use mathlib.Core.Bool.{Bool, true, cond, _||_}
+use mathlib.Core.List.{List}
+use mathlib.Core.Option.{Option, none, some}
 use Prim.Native.Nat.{ℕ, _<_}
 use native.Mathlib.Omega.{arith}
 use borrow.Author.Tests.{eq-eqb}
@@ -9,17 +10,17 @@ use lib.Dec.{T}
 use Rattle.model.specs.Searches.{same}
 use Rattle.model.specs.Plan.{mayTake}
 use Rattle.model.specs.Records as records
-use Rattle.model.specs.Records.{TimerCall, Call, call}
+use Rattle.model.specs.Records.{TimerCall, Call, call, isTick}
 use Rattle.model.specs.State.{condition}
 use Rattle.model.specs.Priorities.{chosen}
-use Rattle.model.specs.Rules.{firstNo, isSomebody, askCaller, holdsNot, lastTaken, stage, callPlace, laterQuestions}
-use Rattle.model.proofs.Tests.{same-eq}
+use Rattle.model.specs.Rules.{firstNo, isSomebody, askCaller, holdsNot, lastTaken, stage, callPlace, laterQuestions, broken}
+use Rattle.model.proofs.Tests.{is-true, or-right, same-eq}
 use Rattle.model.proofs.Laws.{chosen-is, AllYes, somebody, dormant-is}
 use Rattle.machine.specs.declared.Machine.{Machine}
 use Rattle.lists.specs.Lists.{numbered, held}
-use Rattle.machine.specs.View.{planOf, idle}
+use Rattle.machine.specs.View.{planOf, viewed, idle}
 use Rattle.machine.specs.Rules.{ruleNumber, runRule, freeRule, createRule, takeRule, giveRule, cancelRule}
-use Rattle.machine.proofs.Admitted.{CreateAsked, Asked, SectionAsked, Ticks, Creates, Runs, Takes, Gives, asked}
+use Rattle.machine.proofs.Admitted.{CreateAsked, Asked, SectionAsked, TickAsked, Creates, Runs, Takes, Gives, asked}
 use Rattle.machine.proofs.Facts.{facts}
 use Rattle.machine.proofs.Room.{queued-known}
 use Rattle.machine.proofs.Unbroken.{yes-to-all}
@@ -31,14 +32,16 @@ behind m k o =
     ap ruleNumber
     (order-asked (planOf m) (idle m) (call k)
     ∙ ap (λ b. cond b (firstNo (laterQuestions (planOf m) (idle m) (call k))) (some 31)) (eq-eqb (stage (idle m .timers .arming)) (callPlace k) o)
-    ∙ first-asked (planOf m) (idle m) k)
+    ∙ first-asked (planOf m) (idle m) k
+    ∙ ap (λ b. cond b (firstNo (later (planOf m) (idle m) k)) (some 21)) (is-true (isTick k || true) (or-right (isTick k) true tt)))
 
 yes : (m : Machine) (k : Call) → asked m k ≡ 0 → AllYes (laterQuestions (planOf m) (idle m) (call k))
 yes m k z = yes-to-all (planOf m) (idle m) (call k) z .1
 
--- of a Tick nothing but 31 and 21 is asked
-pub tick-rule : {m : Machine} → Ticks m → 0 ≡ asked m records.Tick
-tick-rule {m} t = sym (behind m records.Tick (t .ordered))
+-- of a Tick nothing but 31 is asked, whatever is due
+pub tick-rule : {m : Machine} → TickAsked m → (due : List records.Report) → 0 ≡ ruleNumber (broken (planOf m) (viewed m due) (call records.Tick))
+tick-rule {m} t due =
+    sym (ap ruleNumber (order-asked (planOf m) (viewed m due) (call records.Tick) ∙ ap (λ b. cond b none (some 31)) (eq-eqb (stage (idle m .timers .arming)) 0 (t .ordered))))
 
 pub create-rule : {m : Machine} {t : ℕ} → CreateAsked m t → createRule (m .slots) t ≡ asked m (records.Create t)
 create-rule {m} {t} a = create-asked (m .plan .threads) (m .slots) (m .wakes) t (a .known) ∙ sym (behind m (records.Create t) (a .ordered))

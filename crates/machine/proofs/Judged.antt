@@ -1,8 +1,8 @@
--- What is answered of a record, by whether it breaks a rule. And of records that are no call with nothing due: outside its place a record breaks 31;
--- where something is due a call breaks 21, and a report is compared with the first due; where nothing is due a report breaks 28.
-use mathlib.Core.Path.{_≡_, refl, ap, sym, subst, _∙_}
+-- What is answered of a record, by whether it breaks a rule. And of records that are no call to be made: outside its place a record breaks 31; where
+-- something is due a call other than Tick breaks 21, and a report is compared with the first due; where nothing is due a report breaks 28.
+use mathlib.Core.Path.{_≡_, refl, ap, ap₂, sym, subst, _∙_}
 use mathlib.Core.Logic.{_⊎_, inl, inr, _≢_}
-use mathlib.Core.Bool.{Bool, cond, not}
+use mathlib.Core.Bool.{Bool, false, cond, not, _||_}
 use mathlib.Core.List.{List}
 use mathlib.Core.Option.{Option, none, some}
 use Prim.Native.Nat.{ℕ, suc, _%_, _≤_, _<_}
@@ -13,26 +13,25 @@ use lib.ListN.{drop}
 use Rattle.model.specs.Searches.{isEmpty}
 use Rattle.model.specs.Plan as plan
 use Rattle.model.specs.Records as records
-use Rattle.model.specs.Records.{Call, call, report}
+use Rattle.model.specs.Records.{Call, call, report, isTick}
 use Rattle.model.specs.State as state
 use Rattle.model.specs.Rules.{firstNo, place, inOrder, laterQuestions, broken}
 use Rattle.model.specs.Runs.{moved, broke, outcome, deliver, effect, step}
 use Rattle.model.proofs.Tests.{equal?, split, is-true, is-false}
 use Rattle.plan.proofs.Laws.{threads-view}
 use Rattle.clock.specs.Contracts.{kindPlace}
-use Rattle.machine.specs.declared.reports.Report.{Report}
+use Rattle.due.specs.declared.reports.Report.{Report}
 use Rattle.machine.specs.declared.reporting.Reporting.{Reporting}
-use Rattle.machine.specs.Lists.{threadOf, reportOf, listed}
+use Rattle.due.specs.Lists.{threadOf, reportOf, listed, IsReport}
 use Rattle.machine.specs.View.{planOf, reportAt, shown}
 use Rattle.machine.specs.Rules.{ruleNumber, dueRule}
-use Rattle.machine.specs.Contracts.{IsReport}
 use Rattle.machine.specs.Records.{Named}
 use Rattle.machine.specs.Calls.{Stands, Asks, Answers, inPlace, barred, unasked, told, Hears}
 use Rattle.machine.proofs.Facts.{facts}
 use Rattle.machine.proofs.Meets.{alike}
-use Rattle.machine.proofs.ReportKinds.{switches, switches-not, names-one}
-use Rattle.machine.proofs.Owing.{drop-next, none-due, first-due, unowed, due-known}
-use Rattle.machine.proofs.Questions.{later, named-place, calls-below, order-asked, first-asked, none-asked, report-asked}
+use Rattle.due.proofs.Laws.{switches, switches-not, names-one, drop-next, none-due, first-due}
+use Rattle.machine.proofs.Owing.{unowed, due-known}
+use Rattle.machine.proofs.Questions.{later, named-place, calls-below, no-tick, order-asked, first-asked, none-asked, report-asked}
 use Rattle.machine.proofs.Unbroken.{none-broken}
 
 -- the outcome by the first No
@@ -116,8 +115,8 @@ module _ {c : Reporting} {ceilings : List ℕ} {r : records.Record} (a : Asks c 
     first = reportAt c (c .given)
 
     -- 21
-    call-due : (k : Call) → r ≡ call k → Answers (barred c 21) c r
-    call-due k e =
+    call-due : (k : Call) → isTick k ≡ false → r ≡ call k → Answers (barred c 21) c r
+    call-due k n e =
         let p = planOf (c .machine) in
         let st = shown c in
         bars 21
@@ -125,7 +124,7 @@ module _ {c : Reporting} {ceilings : List ℕ} {r : records.Record} (a : Asks c 
         (in-order o
         ∙ ap (λ (x : records.Record). firstNo (laterQuestions p st x)) e
         ∙ first-asked p st k
-        ∙ ap (λ (l : List records.Report). cond (isEmpty l) (firstNo (later p st k)) (some 21)) (first-due (reportAt c) (c .due) (c .given) h))))
+        ∙ ap₂ (λ (b : Bool) (l : List records.Report). cond (b || isEmpty l) (firstNo (later p st k)) (some 21)) n (first-due (reportAt c) (c .due) (c .given) h))))
         (λ z. omega arith)
 
     module _ (g : Report) (kind : IsReport g) (e : r ≡ report (reportOf g)) where
@@ -162,8 +161,8 @@ module _ {c : Reporting} {ceilings : List ℕ} {r : records.Record} (a : Asks c 
             quiet' = a .stands .quiet';
           })
 
-  -- a record that is heard, where it stands in its place something is due
-  module _ {kind operand : ℕ} {x : Reporting} (t : Hears x c kind operand) (due : T (inPlace (c .machine) kind) → c .given < c .due) where
+  -- a record that is heard, where it stands in its place something is due and it is no Tick
+  module _ {kind operand : ℕ} {x : Reporting} (t : Hears x c kind operand) (due : T (inPlace (c .machine) kind) → (kind ≢ 7) × (c .given < c .due)) where
     barred-as : {rule : ℕ} → x .rule ≡ rule → rule ≢ 0 → Answers (barred c rule) c r → Answers x c r
     barred-as e d w = subst (λ (y : Reporting). Answers y c r) (sym (t .barred' (λ z. d (sym e ∙ z)) ∙ ap (barred c) e)) w
 
@@ -171,21 +170,21 @@ module _ {c : Reporting} {ceilings : List ℕ} {r : records.Record} (a : Asks c 
     ruled e = t .rule' ∙ ap (λ b. cond b (dueRule (reportAt c (c .given)) kind operand) 31) e
 
     -- by its place: outside it, or in it
-    by-place : place r ≡ kindPlace kind → (c .given < c .due → T (inOrder (shown c .timers .arming) r) → x .rule ≡ dueRule (reportAt c (c .given)) kind operand → Answers x c r) → Answers x c r
+    by-place : place r ≡ kindPlace kind → (kind ≢ 7 → c .given < c .due → T (inOrder (shown c .timers .arming) r) → x .rule ≡ dueRule (reportAt c (c .given)) kind operand → Answers x c r) → Answers x c r
     by-place e f = go (split (inPlace (c .machine) kind))
       where
         go : T (inPlace (c .machine) kind) ⊎ T (not (inPlace (c .machine) kind)) → Answers x c r
-        go (inl o) = f (due o) (rw e o) (ruled (is-true (inPlace (c .machine) kind) o))
+        go (inl o) = f (due o .0) (due o .1) (rw e o) (ruled (is-true (inPlace (c .machine) kind) o))
         go (inr o) = barred-as (ruled (is-false (inPlace (c .machine) kind) o)) (λ z. omega arith) (out-of-place (rw e o))
 
     pub heard-answers : Named kind operand r → Answers x c r
     heard-answers (inl k) =
         by-place (named-place {n = operand} (inl k))
-        (λ h o is.
+        (λ n h o is.
         barred-as
         (is ∙ ap (λ b. cond b 21 (cond (eqb (first h o .kind) kind) (cond (eqb (first h o .operand) operand) 0 30) 29)) (lt-ltb kind 16 (omega (arith, k .2, calls-below (k .0)))))
-        (λ z. omega arith) (call-due h o (k .0) (k .1)))
-    heard-answers (inr k) = by-place (named-place {n = operand} (inr k)) (λ h o is. go h o is (equal? (x .rule) 0))
+        (λ z. omega arith) (call-due h o (k .0) (no-tick (k .0) (λ z. n (sym (k .2) ∙ z))) (k .1)))
+    heard-answers (inr k) = by-place (named-place {n = operand} (inr k)) (λ n h o is. go h o is (equal? (x .rule) 0))
       where
         g : Report
         g = record { kind = kind; spare = 0; operand = operand }

@@ -16,7 +16,7 @@ use Rattle.clock.specs.View as timing
 use Rattle.machine.specs.declared.Machine.{Machine}
 use Rattle.machine.specs.declared.state.State.{State}
 use Rattle.machine.specs.declared.reporting.Reporting.{Reporting}
-use Rattle.machine.specs.Lists.{noReport}
+use Rattle.due.specs.Lists.{noReport}
 use Rattle.machine.specs.View.{planOf, idle, view, reportAt, shown}
 use Rattle.machine.specs.Contracts.{Ceilings, Chooses}
 use Rattle.machine.proofs.Views.{sized}
@@ -24,14 +24,9 @@ use Rattle.machine.proofs.Facts.{facts}
 use Rattle.machine.proofs.Chosen.{listed}
 use Rattle.machine.proofs.Owing.{unowed}
 use Rattle.machine.proofs.Room.{delays-fit}
--- what a report of the code stands for, by the number of its kind
-pub use Rattle.machine.proofs.ReportKinds.{by-kind, kind-is}
 -- which condition a number names, and that of a thread of the plan
 pub use Rattle.machine.proofs.Conditions.{at-none, by-state}
 pub use Rattle.machine.proofs.Views.{condition-at}
--- the array of reports is as long as it is declared, and as many reports are due as the list of them has
-pub use Rattle.machine.proofs.Sized.{reports-size}
-pub use Rattle.machine.proofs.Views.{length-owed}
 -- a state opened to be moved on from stands for the same state of the model
 pub use Rattle.machine.proofs.Opening.{opened-shown, opened-stands}
 -- the place of a record by its kind; a record moves as in the model, or its rule is answered: what is answered of a record that is heard, of a report with

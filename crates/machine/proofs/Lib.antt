@@ -11,7 +11,6 @@ mod Switched
 mod Woken
 mod Quieted
 mod After
-mod ReportKinds
 mod Owing
 mod Questions
 mod Unbroken

@@ -5,10 +5,10 @@ use mathlib.Core.List.{List}
 use lib.ListN.{length}
 use Rattle.model.specs.State.{State}
 use Rattle.model.specs.Records as records
-use Rattle.machine.specs.declared.reports.Reports.{Reports}
-use Rattle.machine.specs.declared.reports.Made.{Made}
-use Rattle.machine.specs.Lists.{owed, Tells, Stores}
-use Rattle.machine.proofs.Views.{length-owed}
+use Rattle.due.specs.declared.reports.Reports.{Reports}
+use Rattle.due.specs.declared.made.Made.{Made}
+use Rattle.due.specs.Lists.{owed, Tells, Stores}
+use Rattle.due.proofs.Laws.{length-owed}
 
 -- two states that remember the same are equal
 pub alike : {a b : State} → a .tickNumber ≡ b .tickNumber → a .conditions ≡ b .conditions → a .queue ≡ b .queue → a .holds ≡ b .holds → a .waits ≡ b .waits → a .delays ≡ b .delays → a .reported ≡ b .reported → a .due ≡ b .due → a .timers ≡ b .timers → a ≡ b

@@ -1,4 +1,4 @@
--- What a call answers with nothing due: it is made and followed by its Switch, or breaks a rule; or it is a Tick at which nothing happens.
+-- What a call answers: it is made and followed by its Switch, or breaks a rule; or it is a Tick at which nothing happens.
 use mathlib.Core.Path.{_≡_, refl, ap, ap₂, sym, subst, _∙_}
 use mathlib.Core.Logic.{_⊎_, inl, inr, _≢_}
 use mathlib.Core.Bool.{Bool, true, false, cond, not, _&&_}
@@ -17,6 +17,7 @@ use Rattle.model.specs.Priorities.{greatestHold, current, chosen}
 use Rattle.model.specs.Calls.{tick, delay, relinquish, end, take, give, perform, switch}
 use Rattle.model.specs.Rules.{callPlace, broken}
 use Rattle.model.specs.Runs.{effect}
+use Rattle.model.specs.Formed.{claims}
 use Rattle.model.proofs.Tests.{equal?, and-right}
 use Rattle.model.proofs.Laws.{well-formed}
 use Rattle.plan.specs.View as plans
@@ -25,22 +26,21 @@ use Rattle.lists.specs.Lists.{numbered}
 use Rattle.lists.proofs.Laws.{numbered-threadOf}
 use Rattle.machine.specs.declared.Machine.{Machine}
 use Rattle.clock.specs.declared.time.Tick.{Tick}
-use Rattle.machine.specs.declared.reports.Reports.{Reports}
+use Rattle.due.specs.declared.reports.Reports.{Reports}
 use Rattle.machine.specs.declared.reporting.Reporting.{Reporting}
-use Rattle.machine.specs.Lists.{reportRoom, threadOf, reportOf, noReport, switchTo, listed, owed}
+use Rattle.due.specs.Lists.{reportRoom, threadOf, reportOf, noReport, switchTo, listed, owed}
 use Rattle.machine.specs.View.{planOf, viewed, idle, reportAt, shown}
 use Rattle.machine.specs.Rules.{ruleNumber}
 use Rattle.machine.specs.Contracts.{owing, passed}
-use Rattle.machine.specs.Calls.{Apart, Quiet, Stands, Calls, Answers}
-use Rattle.machine.proofs.Admitted.{CreateAsked, Asked, SectionAsked, Ticks, asked, Makes, by}
-use Rattle.model.proofs.Loops.{listed-more, listed-alike}
+use Rattle.machine.specs.Calls.{Apart, Quiet, Stands, Asks, Calls, Ticks, Answers}
+use Rattle.machine.proofs.Admitted.{CreateAsked, Asked, SectionAsked, TickAsked, asked, MakesOf, Makes, by}
 use Rattle.machine.proofs.Facts.{Formed, facts}
-use Rattle.machine.proofs.ReportKinds.{switch-to}
+use Rattle.due.proofs.Laws.{none-due, switch-to}
 use Rattle.machine.proofs.Views.{sized}
 use Rattle.machine.proofs.Quieted.{forgets, call-quiet, quiet-tick}
 use Rattle.machine.proofs.Switched.{chosen-due, switch-none, Settles, one-byte, switched, unswitched}
 use Rattle.machine.proofs.After.{After, before, created, ticked, delayed, relinquished, ended, taken, given, timed, settles}
-use Rattle.machine.proofs.Owing.{none-due, unowed}
+use Rattle.machine.proofs.Owing.{in-array, switch-behind, unowed}
 use Rattle.machine.proofs.Asking.{tick-rule, creates, delays, ends, relinquishes, takes, gives}
 use Rattle.machine.proofs.Judged.{breaks, moves}
 
@@ -54,12 +54,9 @@ module _ (m : Machine) (rs : Reports) (rule who : ℕ) (quiet : Tick) where
   abbrev owes : Reporting
   owes = owing m rs rule who quiet
 
-  in-array : listed (reportAt owes) (rs .count) ≡ owed rs
-  in-array = listed-alike (λ i. reportOf (reportAt owes i)) (λ i. reportOf (getD (rs .items) i noReport)) (rs .count) (λ i h. ap (λ b. reportOf (cond b (getD (rs .items) i noReport) (switchTo who))) (lt-ltb i (rs .count) h))
-
   module _ (e : eqb rule 0 && not (eqb who (m .reported)) ≡ false) where
     none-shown : shown owes ≡ viewed m (owed rs)
-    none-shown = ap (λ b. viewed m (listed (reportAt owes) (cond b (rs .count + 1) (rs .count)))) e ∙ ap (viewed m) in-array
+    none-shown = ap (λ b. viewed m (listed (reportAt owes) (cond b (rs .count + 1) (rs .count)))) e ∙ ap (viewed m) (in-array owes)
 
     none-apart : Apart owes
     none-apart = record { apart = inl (ap (λ b. cond b (rs .count + 1) (rs .count)) e) }
@@ -68,10 +65,7 @@ module _ (m : Machine) (rs : Reports) (rule who : ℕ) (quiet : Tick) where
     last-shown : who < 256 → shown owes ≡ viewed m (owed rs ++ (Switch (threadOf who) ∷ []))
     last-shown w =
         ap (λ b. viewed m (listed (reportAt owes) (cond b (rs .count + 1) (rs .count)))) e
-        ∙ ap (viewed m)
-        (listed-more (λ i. reportOf (reportAt owes i)) (rs .count)
-        ∙ ap₂ (λ (l : List records.Report) (b : Bool). l ++ (reportOf (cond b (getD (rs .items) (rs .count) noReport) (switchTo who)) ∷ [])) in-array (le-ltb (rs .count) (rs .count) (omega arith))
-        ∙ ap (λ r. owed rs ++ (r ∷ [])) (switch-to who w))
+        ∙ ap (viewed m) (switch-behind owes ∙ ap (λ r. owed rs ++ (r ∷ [])) (switch-to who w))
 
     last-apart : rs .count < reportRoom → Apart owes
     last-apart h = record { apart = inr (ap (λ b. cond b (rs .count + 1) (rs .count)) e, h) }
@@ -81,11 +75,11 @@ module _ {c : Reporting} {ceilings : List ℕ} where
   pub comes-idle : {k : Call} → Calls c ceilings k → shown c ≡ idle (c .machine)
   comes-idle a = ap (viewed (c .machine)) (none-due (reportAt c) (c .due) (c .given) (a .undue))
 
-  formed-idle : {k : Call} → Calls c ceilings k → Formed (c .machine)
-  formed-idle a = unowed (c .machine) (reportAt c) (c .due) (c .given) (a .asks .formed')
+  formed-idle : {r : records.Record} → Asks c ceilings r → Formed (c .machine)
+  formed-idle a = unowed (c .machine) (reportAt c) (c .due) (c .given) (a .formed')
 
   pub create-asked : {t : ℕ} → Calls c ceilings (records.Create t) → CreateAsked (c .machine) t
-  create-asked {t} a = record { formed = formed-idle a; ordered = a .ordered; known = omega (arith, ltb→lt t (threads (planOf (c .machine))) (a .asks .allowed'), threads-view (c .machine .plan)) }
+  create-asked {t} a = record { formed = formed-idle (a .asks); ordered = a .ordered; known = omega (arith, ltb→lt t (threads (planOf (c .machine))) (a .asks .allowed'), threads-view (c .machine .plan)) }
 
   -- with nothing due the chosen thread is the one reported
   reported-chosen : {k : Call} → Calls c ceilings k → threadOf (c .machine .reported) ≡ chosen (planOf (c .machine)) (idle (c .machine))
@@ -95,7 +89,7 @@ module _ {c : Reporting} {ceilings : List ℕ} where
       well-formed (planOf m) st (sized m) (a .asks .formed') .shown' (none-due (reportAt c) (c .due) (c .given) (a .undue)) ∙ chosen-due (planOf m) m (st .due)
 
   pub caller-asked : {k : Call} → Calls c ceilings k → Asked (c .machine) (c .machine .reported) (callPlace k)
-  caller-asked a = record { formed = formed-idle a; ordered = a .ordered; caller' = sym (numbered-threadOf (c .machine .reported)) ∙ ap numbered (reported-chosen a) }
+  caller-asked a = record { formed = formed-idle (a .asks); ordered = a .ordered; caller' = sym (numbered-threadOf (c .machine .reported)) ∙ ap numbered (reported-chosen a) }
 
   pub take-asked : {n : ℕ} → Calls c ceilings (records.Take n) → SectionAsked (c .machine) (c .machine .reported) n
   take-asked {n} a = record { asked = caller-asked a; known = ltb→lt n (c .machine .plan .sections) (a .asks .allowed') }
@@ -107,8 +101,12 @@ module _ {c : Reporting} {ceilings : List ℕ} where
   pub short-wait : {n : ℕ} → Calls c ceilings (records.Delay n) → n ≤ 65535
   short-wait {n} a = leb→le n 65535 (and-right (leb 1 n) (leb n 65535) (a .asks .allowed'))
 
-  pub tick-asked : Calls c ceilings records.Tick → Ticks (c .machine)
-  tick-asked a = record { formed = formed-idle a; ordered = a .ordered; room = a .asks .tick' refl }
+  pub tick-asked : Ticks c ceilings → TickAsked (c .machine)
+  tick-asked a = record { formed = formed-idle (a .asks); ordered = a .ordered; room = a .asks .tick' refl }
+
+  -- what has a claim on the room for reports finds it
+  pub claims-room : {r : records.Record} → Asks c ceilings r → claims (shown c) ≤ c .machine .plan .threads + 9
+  claims-room a = omega (arith, well-formed (planOf (c .machine)) (shown c) (sized (c .machine)) (a .formed') .room, threads-view (c .machine .plan))
 
   -- a call that breaks no rule leaves enough to go on from
   leaves : (k : Call) → Calls c ceilings k → asked (c .machine) k ≡ 0 → After (c .machine .plan .threads) (perform (planOf (c .machine)) k (idle (c .machine)))
@@ -118,20 +116,16 @@ module _ {c : Reporting} {ceilings : List ℕ} where
   leaves records.End a z = let w = ends (caller-asked a) z in subst (After (c .machine .plan .threads)) (sym (by w end)) (ended w)
   leaves (records.Take n) a z = let w = takes (take-asked a) z in subst (After (c .machine .plan .threads)) (sym (by (w .runs) (λ x. take (planOf (c .machine)) x n))) (taken w)
   leaves (records.Give n) a z = let w = gives (give-asked a) z in subst (After (c .machine .plan .threads)) (sym (by (w .runs) (λ x. give (planOf (c .machine)) x n))) (given w)
-  leaves records.Tick a z = ticked (tick-asked a)
-  leaves (records.Timing k) a z = timed (formed-idle a) k
+  leaves records.Tick a z =
+      subst (λ (st : state.State). After (c .machine .plan .threads) (tick st)) (comes-idle a) (ticked (tick-asked (record { asks = a .asks; ordered = a .ordered })) (shown c .due) (claims-room (a .asks)))
+  leaves (records.Timing k) a z = timed (formed-idle (a .asks)) k
 
-  asked-here : {k : Call} → Calls c ceilings k → ruleNumber (broken (planOf (c .machine)) (shown c) (call k)) ≡ asked (c .machine) k
-  asked-here {k} a = ap (λ (st : state.State). ruleNumber (broken (planOf (c .machine)) st (call k))) (comes-idle a)
-
-module _ {c : Reporting} {ceilings : List ℕ} {k : Call} (a : Calls c ceilings k) {left : Machine} {rs : Reports} {rule : ℕ} (made : Makes left rs rule (c .machine) k) where
-  -- what the call leaves before its Switch is enough to find the chosen thread
-  pub call-settles : Settles left rs ceilings
-  call-settles = go (equal? rule 0)
-    where
-      go : (rule ≡ 0) ⊎ (rule ≢ 0) → Settles left rs ceilings
-      go (inl z) = settles (facts (formed-idle a)) (record { plan' = made .plan'; seen = made .made z }) (leaves k a (sym (made .rule') ∙ z)) ceilings (a .asks .ceilings')
-      go (inr d) = settles (facts (formed-idle a)) (record { plan' = made .plan'; seen = made .kept d }) (before (facts (formed-idle a))) ceilings (a .asks .ceilings')
+-- what a call leaves before its Switch: a machine and its reports
+module _ {c : Reporting} {ceilings : List ℕ} {k : Call} (a : Asks c ceilings (call k)) {left : Machine} {rs : Reports} {rule : ℕ} (made : MakesOf (shown c) left rs rule (c .machine) k)
+    (enough : After (c .machine .plan .threads) (viewed left (owed rs))) where
+  -- it is enough to find the chosen thread
+  pub left-settles : Settles left rs ceilings
+  left-settles = settles (facts (formed-idle a)) (record { plan' = made .plan'; seen = refl }) enough ceilings (a .ceilings')
 
   module _ {who : ℕ} {quiet : Tick} (is : who ≡ numbered (chosen (planOf left) (idle left))) (still : Quiet left (quiet .0)) where
     abbrev after : Reporting
@@ -143,31 +137,59 @@ module _ {c : Reporting} {ceilings : List ℕ} {k : Call} (a : Calls c ceilings 
     -- it moves the machine, where it stands for what the model's call and its Switch make
     moved-by : rule ≡ 0 → shown after ≡ switch (planOf left) (viewed left (owed rs)) → Apart after → Answers after c (call k)
     moved-by z v p =
-        moves c after (made .plan') (asked-here a ∙ sym (made .rule') ∙ z) z
+        moves c after (made .plan') (sym (made .rule') ∙ z) z
         (v
         ∙ ap (λ (q : plan.Plan). switch q (viewed left (owed rs))) (ap plans.view (made .plan'))
-        ∙ ap (switch (planOf (c .machine))) (made .made z)
-        ∙ ap (λ (st : state.State). effect (planOf (c .machine)) (call k) st) (sym (comes-idle a)))
+        ∙ ap (switch (planOf (c .machine))) (made .made z))
         (stands p)
 
     -- the call with its Switch, with none, or barred
-    pub call-answers : Answers after c (call k)
-    call-answers = go (equal? rule 0) (equal? who (left .reported))
+    pub left-answers : Answers after c (call k)
+    left-answers = go (equal? rule 0) (equal? who (left .reported))
       where
         go : (rule ≡ 0) ⊎ (rule ≢ 0) → (who ≡ left .reported) ⊎ (who ≢ left .reported) → Answers after c (call k)
         go (inl z) (inl q) =
             let e : eqb rule 0 && not (eqb who (left .reported)) ≡ false = rw (eq-eqb rule 0 z, eq-eqb who (left .reported) q) in
-            moved-by z (none-shown left rs rule who quiet e ∙ unswitched call-settles who is q) (none-apart left rs rule who quiet e)
+            moved-by z (none-shown left rs rule who quiet e ∙ unswitched left-settles who is q) (none-apart left rs rule who quiet e)
         go (inl z) (inr d) =
             let e : eqb rule 0 && not (eqb who (left .reported)) ≡ true = rw (eq-eqb rule 0 z, ne-eqb who (left .reported) d) in
-            moved-by z (last-shown left rs rule who quiet e (one-byte call-settles who is) ∙ switched call-settles who is d) (last-apart left rs rule who quiet e (call-settles .room))
+            moved-by z (last-shown left rs rule who quiet e (one-byte left-settles who is) ∙ switched left-settles who is d) (last-apart left rs rule who quiet e (left-settles .room))
         go (inr d) q =
             let e : eqb rule 0 && not (eqb who (left .reported)) ≡ false = rw (ne-eqb rule 0 d) in
-            breaks c after (made .plan') (none-shown left rs rule who quiet e ∙ made .kept d ∙ sym (comes-idle a)) (made .rule' ∙ sym (asked-here a)) d (stands (none-apart left rs rule who quiet e))
+            breaks c after (made .plan') (none-shown left rs rule who quiet e ∙ made .kept d) (made .rule') d (stands (none-apart left rs rule who quiet e))
+
+-- a call with nothing due
+module _ {c : Reporting} {ceilings : List ℕ} {k : Call} (a : Calls c ceilings k) {left : Machine} {rs : Reports} {rule : ℕ} (made : Makes left rs rule (c .machine) k) where
+  as-shown : MakesOf (shown c) left rs rule (c .machine) k
+  as-shown = subst (λ (st : state.State). MakesOf st left rs rule (c .machine) k) (sym (comes-idle a)) made
+
+  enough : After (c .machine .plan .threads) (viewed left (owed rs))
+  enough = go (equal? rule 0)
+    where
+      go : (rule ≡ 0) ⊎ (rule ≢ 0) → After (c .machine .plan .threads) (viewed left (owed rs))
+      go (inl z) = subst (After (c .machine .plan .threads)) (sym (made .made z)) (leaves k a (sym (made .rule') ∙ z))
+      go (inr d) = subst (After (c .machine .plan .threads)) (sym (made .kept d)) (before (facts (formed-idle (a .asks))))
+
+  pub call-settles : Settles left rs ceilings
+  call-settles = left-settles (a .asks) as-shown enough
+
+  pub call-answers : {who : ℕ} {quiet : Tick} → who ≡ numbered (chosen (planOf left) (idle left)) → Quiet left (quiet .0) → Answers (owing left rs rule who quiet) c (call k)
+  call-answers is still = left-answers (a .asks) as-shown enough is still
 
   -- a call that does not forget it keeps the tick number before which nothing happens
   pub quiet-answers : forgets k ≡ false → {who : ℕ} → who ≡ numbered (chosen (planOf left) (idle left)) → Answers (owing left rs rule who (c .quiet)) c (call k)
   quiet-answers d is = call-answers is (call-quiet made d (a .asks .stands .quiet'))
+
+-- a Tick, whatever is due
+module _ {c : Reporting} {ceilings : List ℕ} (a : Ticks c ceilings) {left : Machine} {rs : Reports} (made : MakesOf (shown c) left rs 0 (c .machine) records.Tick) where
+  ticks-on : After (c .machine .plan .threads) (viewed left (owed rs))
+  ticks-on = subst (After (c .machine .plan .threads)) (sym (made .made refl)) (ticked (tick-asked a) (shown c .due) (claims-room (a .asks)))
+
+  pub tick-settles : Settles left rs ceilings
+  tick-settles = left-settles (a .asks) made ticks-on
+
+  pub tick-answers : {who : ℕ} {quiet : Tick} → who ≡ numbered (chosen (planOf left) (idle left)) → Quiet left (quiet .0) → Answers (owing left rs 0 who quiet) c (call records.Tick)
+  tick-answers is still = left-answers (a .asks) made ticks-on is still
 
 -- a Tick at which nothing happens
 module _ {c : Reporting} {ceilings : List ℕ} (a : Calls c ceilings records.Tick) (z : c .rule ≡ 0) (below : c .machine .tick .0 + 1 < c .quiet .0) where
@@ -187,7 +209,7 @@ module _ {c : Reporting} {ceilings : List ℕ} (a : Calls c ceilings records.Tic
 
   pub passed-answers : Answers (passed c) c (call records.Tick)
   passed-answers =
-      moves c (passed c) refl (asked-here a ∙ sym (tick-rule (tick-asked a))) z
+      moves c (passed c) refl (sym (tick-rule (tick-asked (record { asks = a .asks; ordered = a .ordered })) (shown c .due))) z
       (passed-shown ∙ sym unswitched-tick ∙ ap (λ (st : state.State). effect (planOf m) (call records.Tick) st) (sym (comes-idle a)))
       (record {
         apart' = record { apart = a .asks .stands .apart' .apart };

@@ -1,64 +1,33 @@
--- What is due: the reports behind the ones given, by their places; and what is known of it in a well-formed state.
-use mathlib.Core.Path.{_≡_, refl, ap, _∙_}
+-- What is due: which of it stands in the array, and what is known of it in a well-formed state.
+use mathlib.Core.Path.{_≡_, refl, ap, ap₂, sym, _∙_}
 use mathlib.Core.Logic.{_⊎_, inl, inr}
-use mathlib.Core.Bool.{not}
-use mathlib.Core.List.{List, [], _∷_, tail, List·Memᴰ as Mem, List·Memᴰ·head as here, List·Memᴰ·tail as there}
+use mathlib.Core.Bool.{Bool, not, cond}
+use mathlib.Core.List.{List, [], _∷_, _++_, append-nil}
+use mathlib.Core.Option.{Option}
 use Prim.Native.Nat.{ℕ, zero, suc, _+_, _-_, _≤_, _<_}
-use native.Mathlib.Numerals.{add-one}
 use native.Mathlib.Omega.{arith}
+use borrow.Author.Tests.{lt-ltb, le-ltb}
 use lib.Dec.{T, ltb, ltb→lt, nltb→le}
-use lib.ListN.{length, getD, drop, drop-of-length-le, List·getD-eq-default}
-use lib.Seq.{drop-cons, drop-drop}
-use Rattle.model.specs.Records.{report, allowed}
+use lib.ListN.{length, getD, drop}
+use Rattle.model.specs.Records as records
+use Rattle.model.specs.Records.{Switch, report, allowed, isSwitch, operandThread}
+use Rattle.model.specs.State.{withoutSwitch}
 use Rattle.model.specs.Formed.{formedMachine, formedReports, formed}
 use Rattle.model.proofs.Tests.{split, and-left}
+use Rattle.model.proofs.Searches.{filter-append}
 use Rattle.model.proofs.Laws.{well-formed}
-use Rattle.model.proofs.Loops.{listed as entry-listed, length-listed}
+use Rattle.model.proofs.Loops.{listed-more, listed-alike}
 use Rattle.plan.proofs.Laws.{threads-view}
+use Rattle.due.specs.declared.reports.Report.{Report}
+use Rattle.due.specs.Lists.{reportRoom, reportOf, IsReport, noReport, switchTo, listed, owed}
+use Rattle.due.proofs.Laws.{is-report, none-due, in-due, within}
 use Rattle.machine.specs.declared.Machine.{Machine}
-use Rattle.machine.specs.declared.reports.Report.{Report}
 use Rattle.machine.specs.declared.state.State.{State}
-use Rattle.machine.specs.Lists.{reportRoom, reportOf, noReport, listed}
-use Rattle.machine.specs.View.{planOf, viewed, view}
-use Rattle.machine.specs.Contracts.{IsReport}
+use Rattle.machine.specs.declared.reporting.Reporting.{Reporting}
+use Rattle.machine.specs.View.{planOf, viewed, view, reportsIn, reportAt, shown}
+use Rattle.machine.specs.Calls.{Apart}
 use Rattle.machine.proofs.Facts.{Formed, facts}
 use Rattle.machine.proofs.Views.{sized}
-use Rattle.machine.proofs.ReportKinds.{is-report}
-
--- one more is given: the first is due no longer
-pub drop-next : {A : Type 0} (n : ℕ) (l : List A) → drop (n + 1) l ≡ tail (drop n l)
-drop-next {A} n l = rw add-one (go n l)
-  where
-    go : (n : ℕ) (l : List A) → drop (suc n) l ≡ tail (drop n l)
-    go zero [] = refl
-    go zero (a ∷ l) = refl
-    go (suc n) [] = refl
-    go (suc n) (a ∷ l) = go n l
-
-in-drop : {A : Type 0} (n : ℕ) (l : List A) {a : A} → Mem a (drop n l) → Mem a l
-in-drop zero l m = m
-in-drop (suc n) [] m = m
-in-drop (suc n) (b ∷ l) m = there (in-drop n l m)
-
-module _ (at : ℕ → Report) (n given : ℕ) where
-  counted : length (listed at n) ≡ n
-  counted = length-listed (λ i. reportOf (at i)) n
-
-  -- nothing is due where all are given
-  pub none-due : n ≤ given → drop given (listed at n) ≡ []
-  none-due h = drop-of-length-le (listed at n) {i = given} (omega (arith, counted))
-
-  -- otherwise the one behind those given is due first
-  pub first-due : given < n → drop given (listed at n) ≡ reportOf (at given) ∷ drop (suc given) (listed at n)
-  first-due h =
-      drop-cons (listed at n) given (reportOf noReport) (omega (arith, counted))
-      ∙ ap (λ r. r ∷ drop (suc given) (listed at n)) (entry-listed (λ i. reportOf (at i)) n given (reportOf noReport) h)
-
--- and so is every one up to the count
-in-due : (at : ℕ → Report) (n given i : ℕ) → given ≤ i → i < n → Mem (reportOf (at i)) (drop given (listed at n))
-in-due at n given i a b =
-    let z : given + (i - given) ≡ i = omega arith in
-    in-drop (i - given) (drop given (listed at n)) (rw (drop-drop (i - given) given (listed at n), z, first-due at n i b) (here refl))
 
 module _ (m : Machine) (at : ℕ → Report) (n given : ℕ) (passes : T (formed (planOf m) (viewed m (drop given (listed at n))))) where
   -- so is the machine, whatever is due
@@ -73,16 +42,48 @@ module _ (m : Machine) (at : ℕ → Report) (n given : ℕ) (passes : T (formed
   pub due-known : (i : ℕ) → given ≤ i → i < n → IsReport (at i)
   due-known i a b = is-report (at i) (planOf m) (omega (arith, threads-view (m .plan), facts unowed .fits .threads)) (due-allowed i a b)
 
--- past the end of an array there is no report
-pub within : (items : List Report) (i : ℕ) → length items ≡ reportRoom → IsReport (getD items i noReport) → i < reportRoom
-within items i size k = go (split (ltb i reportRoom))
-  where
-    go : T (ltb i reportRoom) ⊎ T (not (ltb i reportRoom)) → i < reportRoom
-    go (inl u) = ltb→lt i reportRoom u
-    go (inr u) =
-        let past : getD items i noReport ≡ noReport = List·getD-eq-default items noReport (omega (arith, nltb→le i reportRoom u)) in
-        let z : IsReport noReport = rw past at k in
-        absurd (omega (arith, z .least))
+-- a Switch behind those due is the one that is dropped
+none-behind : (n : ℕ) (l : List records.Report) (w : Option ℕ) → withoutSwitch (drop n (l ++ (Switch w ∷ []))) ≡ withoutSwitch (drop n l)
+none-behind zero l w = filter-append (λ d. not (isSwitch d)) l (Switch w ∷ []) ∙ append-nil (withoutSwitch l)
+none-behind (suc zero) [] w = refl
+none-behind (suc (suc n)) [] w = refl
+none-behind (suc n) (d ∷ l) w = none-behind n l w
+
+-- the reports of the array, and behind them the Switch that may stand apart
+module _ (c : Reporting) where
+  pub in-array : listed (reportAt c) (c .count) ≡ owed (reportsIn c)
+  in-array =
+      listed-alike (λ i. reportOf (reportAt c i)) (λ i. reportOf (getD (c .reports) i noReport)) (c .count)
+      (λ i h. ap (λ b. reportOf (cond b (getD (c .reports) i noReport) (switchTo (c .chosen)))) (lt-ltb i (c .count) h))
+
+  pub switch-behind : listed (reportAt c) (c .count + 1) ≡ owed (reportsIn c) ++ (reportOf (switchTo (c .chosen)) ∷ [])
+  switch-behind =
+      listed-more (λ i. reportOf (reportAt c i)) (c .count)
+      ∙ ap₂ (λ (l : List records.Report) (b : Bool). l ++ (reportOf (cond b (getD (c .reports) (c .count) noReport) (switchTo (c .chosen))) ∷ [])) in-array (le-ltb (c .count) (c .count) (omega arith))
+
+  -- without a Switch it is the array's that are due
+  pub array-due : Apart c → withoutSwitch (drop (c .given) (owed (reportsIn c))) ≡ withoutSwitch (drop (c .given) (listed (reportAt c) (c .due)))
+  array-due a = go (a .apart)
+    where
+      go : (c .due ≡ c .count) ⊎ ((c .due ≡ c .count + 1) × (c .count < reportRoom)) → withoutSwitch (drop (c .given) (owed (reportsIn c))) ≡ withoutSwitch (drop (c .given) (listed (reportAt c) (c .due)))
+      go (inl e) = sym (ap (λ n. withoutSwitch (drop (c .given) (listed (reportAt c) n))) e ∙ ap (λ l. withoutSwitch (drop (c .given) l)) in-array)
+      go (inr e) =
+          sym (ap (λ n. withoutSwitch (drop (c .given) (listed (reportAt c) n))) (e .0) ∙ ap (λ l. withoutSwitch (drop (c .given) l)) switch-behind
+          ∙ none-behind (c .given) (owed (reportsIn c)) (operandThread (switchTo (c .chosen) .operand)))
+
+  -- those due of the array are in it
+  pub array-room : T (formed (planOf (c .machine)) (shown c)) → Apart c → length (c .reports) ≡ reportRoom → c .given < c .count → c .count ≤ reportRoom
+  array-room f a size h =
+      let i = c .count - 1 in
+      let b : i < c .count = omega arith in
+      omega (arith, within (c .reports) i size (rw (lt-ltb i (c .count) b) at (due-known (c .machine) (reportAt c) (c .due) (c .given) f i (omega arith) (omega (arith, apart-count a)))))
+    where
+      apart-count : Apart c → c .count ≤ c .due
+      apart-count a = go (a .apart)
+        where
+          go : (c .due ≡ c .count) ⊎ ((c .due ≡ c .count + 1) × (c .count < reportRoom)) → c .count ≤ c .due
+          go (inl e) = omega arith
+          go (inr e) = omega (arith, e .0)
 
 module _ (s : State) (passes : T (formed (planOf (s .machine)) (view s))) where
   abbrev at : ℕ → Report

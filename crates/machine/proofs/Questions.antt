@@ -1,7 +1,7 @@
 -- The rules that the code answers are the model's questions: of every record 31, of a call 21 and those behind it, of a report 28 to 30.
 use mathlib.Core.Path.{_≡_, refl, ap, sym, _∙_}
 use mathlib.Core.Logic.{_⊎_, inl, inr, _≢_}
-use mathlib.Core.Bool.{Bool, true, false, cond}
+use mathlib.Core.Bool.{Bool, true, false, cond, _||_}
 use mathlib.Core.List.{List, [], _∷_}
 use mathlib.Core.Option.{Option, none, some}
 use Prim.Native.Nat.{ℕ, _<_}
@@ -11,7 +11,7 @@ use lib.Dec.{eqb}
 use lib.ListN.{getD}
 use Rattle.model.specs.Searches.{same}
 use Rattle.model.specs.Plan.{Plan, mayTake}
-use Rattle.model.specs.Records.{Call, call, report, callKind, operand}
+use Rattle.model.specs.Records.{Call, call, report, callKind, isTick, operand}
 use Rattle.model.specs.Records as records
 use Rattle.model.specs.State.{condition}
 use Rattle.model.specs.State as state
@@ -21,24 +21,23 @@ use Rattle.model.specs.Rules.{Question, _asks_, firstNo, nothingDue, isSomebody
 use Rattle.model.proofs.Tests.{equal?}
 use Rattle.plan.specs.View.{mayTakeIn}
 use Rattle.lists.specs.declared.holds.Holds.{Holds}
-use Rattle.machine.specs.declared.reports.Report as declared
+use Rattle.due.specs.declared.reports.Report as declared
 use Rattle.machine.specs.declared.slots.Slots.{Slots}
 use Rattle.lists.specs.Words.{nibble}
 use Rattle.lists.specs.Lists.{numbered, held}
 use Rattle.lists.proofs.Laws.{number-is}
 use Rattle.clock.specs.View.{numberAt}
-use Rattle.machine.specs.Lists.{reportOf}
+use Rattle.due.specs.Lists.{reportOf, IsReport}
 use Rattle.clock.specs.declared.time.Tick.{Tick}
 use Rattle.clock.specs.declared.timers.Timers.{Timers}
 use Rattle.clock.specs.View as timing
 use Rattle.clock.specs.Contracts.{kindPlace}
 use Rattle.machine.specs.View.{conditionsOf}
 use Rattle.machine.specs.Rules.{ruleNumber, runRule, freeRule, createRule, takeRule, giveRule, cancelRule, dueRule}
-use Rattle.machine.specs.Contracts.{IsReport}
 use Rattle.machine.specs.Records.{Named}
 use Rattle.machine.proofs.Conditions.{dormant-state}
 use Rattle.machine.proofs.Views.{condition-at}
-use Rattle.machine.proofs.ReportKinds.{kind-is, same-operand}
+use Rattle.due.proofs.Laws.{kind-is, same-operand}
 
 -- what is asked of a call behind 21
 abbrev pub later : Plan → state.State → Call → List Question
@@ -79,6 +78,17 @@ calls-below (records.Timing (records.Arm i)) = omega arith
 calls-below (records.Timing (records.Start n)) = omega arith
 calls-below (records.Timing (records.Period n)) = omega arith
 calls-below (records.Timing (records.Cancel i)) = omega arith
+
+-- Tick is the call of kind 7
+pub no-tick : (k : Call) → callKind k ≢ 7 → isTick k ≡ false
+no-tick (records.Create t) d = refl
+no-tick (records.Delay n) d = refl
+no-tick records.Relinquish d = refl
+no-tick records.End d = refl
+no-tick (records.Take s) d = refl
+no-tick (records.Give s) d = refl
+no-tick records.Tick d = absurd (d refl)
+no-tick (records.Timing k) d = refl
 
 report-place : (r : declared.Report) → IsReport r → 0 ≡ kindPlace (r .kind)
 report-place r i = rw (ne-eqb (r .kind) 9 (λ e. omega (arith, i .least)), ne-eqb (r .kind) 10 (λ e. omega (arith, i .least)))
@@ -147,8 +157,8 @@ module _ (p : Plan) (st : state.State) where
   unfolding broken
   order-asked r = refl
 
-  -- 21
-  pub first-asked : (k : Call) → firstNo (laterQuestions p st (call k)) ≡ cond (nothingDue st) (firstNo (later p st k)) (some 21)
+  -- 21, of calls other than Tick
+  pub first-asked : (k : Call) → firstNo (laterQuestions p st (call k)) ≡ cond (isTick k || nothingDue st) (firstNo (later p st k)) (some 21)
   first-asked (records.Create t) = refl
   first-asked (records.Delay n) = refl
   first-asked records.Relinquish = refl

@@ -1,7 +1,7 @@
 -- A Tick before the tick number at which the next thing happens changes the tick number alone, and most calls keep such a number.
 use mathlib.Core.Path.{_≡_, refl, ap, sym, subst, _∙_}
 use mathlib.Core.Logic.{_⊎_, inl, inr, _≢_}
-use mathlib.Core.Bool.{Bool, true, false, cond, not, true≢false}
+use mathlib.Core.Bool.{Bool, true, false, cond, not, _&&_, true≢false}
 use mathlib.Core.Option.{Option, none, some}
 use mathlib.Core.List.{List, [], _∷_, _++_, map, append-nil, List·Memᴰ as Mem, List·Memᴰ·head as here, List·Memᴰ·tail as there}
 use Prim.Native.Nat.{ℕ, zero, suc, _+_, min, _≤_, _<_}
@@ -19,7 +19,7 @@ use Rattle.model.specs.Records as records
 use Rattle.model.specs.Records.{timerCount, Call, Create, Delay, Relinquish, End, Take, Give, Timing, Ready, Expire}
 use Rattle.model.specs.Calls.{create, sleepsUntil, sleepers, stillAsleep, tick, rivalled, relinquish, end, aboveAll, heldByOthers, take, heir, handOver, give, byCaller, perform}
 use Rattle.model.specs.Rules.{stage}
-use Rattle.model.proofs.Tests.{split, equal?}
+use Rattle.model.proofs.Tests.{split, equal?, and-left}
 use Rattle.model.proofs.Searches.{filtered}
 use Rattle.model.proofs.Laws.{tag, Sleeps, sleeper, wake-up}
 use Rattle.model.proofs.Loops.{length-listed, unlisted}
@@ -31,11 +31,11 @@ use Rattle.clock.specs.View.{numberAt}
 use Rattle.clock.specs.Contracts.{soonest as soonestExpiry}
 use Rattle.clock.proofs.Laws.{soonest-least as soonest-expiry}
 use Rattle.machine.specs.declared.Machine.{Machine}
-use Rattle.machine.specs.declared.reports.Reports.{Reports}
-use Rattle.machine.specs.View.{conditionIn, planOf, idle}
+use Rattle.due.specs.declared.reports.Reports.{Reports}
+use Rattle.machine.specs.View.{conditionIn, planOf, viewed, idle}
 use Rattle.machine.specs.Contracts.{soonest, nextEventOf}
 use Rattle.machine.specs.Calls.{Quiet}
-use Rattle.machine.proofs.Admitted.{Makes}
+use Rattle.machine.proofs.Admitted.{MakesOf, Makes}
 use Rattle.machine.proofs.Conditions.{sleeps-at}
 use Rattle.machine.proofs.Facts.{Facts}
 use Rattle.machine.proofs.Views.{condition-at}
@@ -74,9 +74,9 @@ next-quiet m z = go (idle m .timers .arming) refl
     go (afterStart i s) e = rw e (unknown-quiet m)
 
 -- after a Tick the order of Delays still names each sleeper just once
-pub tick-sleeps : {m left : Machine} {rs : Reports} → Facts m → Makes left rs 0 m records.Tick → Sleeps (idle left .conditions) (idle left .delays)
+pub tick-sleeps : {m left : Machine} {rs : Reports} {due : List records.Report} → Facts m → MakesOf (viewed m due) left rs 0 m records.Tick → Sleeps (idle left .conditions) (idle left .delays)
 unfolding tick
-tick-sleeps {m} f makes = subst (λ (st : State). Sleeps (st .conditions) (st .delays)) (sym (makes .made refl)) (wake-up (suc (m .tick .0)) (idle m) (f .sleeps))
+tick-sleeps {m} {due = due} f makes = subst (λ (st : State). Sleeps (st .conditions) (st .delays)) (sym (makes .made refl)) (wake-up (suc (m .tick .0)) (viewed m due) (f .sleeps))
 
 -- after these calls it is asked anew, or no longer known
 abbrev pub forgets : Call → Bool
@@ -203,10 +203,12 @@ module _ (m : Machine) (until : ℕ) (q : Quiet m until) (h : m .tick .0 + 1 < u
           let l : t < m .plan .threads = omega (arith, r .0, length-listed (conditionIn (m .slots) (m .wakes)) (m .plan .threads)) in
           omega (arith, h, q .sleepers' t n l (sym (condition-at (m .plan .threads) (m .slots) (m .wakes) t l) ∙ r .1))
 
-  none-expires : expired n (idle m .timers) ≡ []
+  none-expires : expired n [] (idle m .timers) ≡ []
   none-expires =
-      no-member (expired n (idle m .timers))
-      (λ i k. let r = filtered (λ j. expiresAt n (slot (idle m .timers) j)) (upTo timerCount) k in late-than n (omega (arith, h)) (slot (idle m .timers) i) (q .timers' i) (r .1))
+      no-member (expired n [] (idle m .timers))
+      (λ i k.
+      let r = filtered (λ j. expiresAt n (slot (idle m .timers) j) && true) (upTo timerCount) k in
+      late-than n (omega (arith, h)) (slot (idle m .timers) i) (q .timers' i) (and-left (expiresAt n (slot (idle m .timers) i)) true (r .1)))
 
   as-they-were : moveOn n (idle m .timers) ≡ idle m .timers
   as-they-were = ap (λ l. record { slots = l; arming = idle m .timers .arming }) (unmoved n (omega (arith, h)) (idle m .timers .slots) (q .timers'))
@@ -215,6 +217,6 @@ module _ (m : Machine) (until : ℕ) (q : Quiet m until) (h : m .tick .0 + 1 < u
   unfolding tick
   quiet-tick =
       let e : n ≡ m .tick .0 + 1 = omega arith in
-      ap (λ l. idle m ▷ setTickNumber n ▷ setTimers (moveOn n (idle m .timers)) ▷ setDelays (stillAsleep n (idle m)) ▷ arrive l ▷ owe (map Expire (expired n (idle m .timers)) ++ map Ready l)) nobody-wakes
+      ap (λ l. idle m ▷ setTickNumber n ▷ setTimers (moveOn n (idle m .timers)) ▷ setDelays (stillAsleep n (idle m)) ▷ arrive l ▷ owe (map Expire (expired n [] (idle m .timers)) ++ map Ready l)) nobody-wakes
       ∙ ap (λ l. idle m ▷ setTickNumber n ▷ setTimers (moveOn n (idle m .timers)) ▷ setDelays (stillAsleep n (idle m)) ▷ arrive [] ▷ owe (map Expire l ++ [])) none-expires
       ∙ alike e refl (append-nil (idle m .queue)) refl refl (all-stay (λ t. sleepsUntil n (condition (idle m) t)) (queued (m .delays)) nobody-wakes) refl refl as-they-were

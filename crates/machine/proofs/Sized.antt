@@ -6,21 +6,16 @@ use denote.Laws.{Is}
 use denote.Struct.Laws.{owed, val}
 use denote.Struct.Declared.{row}
 use Rattle.machine.specs.declared.Machine.{Machine}
-use Rattle.machine.specs.declared.reports.Reports.{Reports}
 use Rattle.machine.specs.declared.reporting.Reporting.{Reporting}
 use Rattle.machine.specs.declared.state.State.{State}
-use Rattle.machine.specs.Lists.{reportRoom}
+use Rattle.due.specs.Lists.{reportRoom}
+use Rattle.due.proofs.Laws.{reports-size}
 use Rattle.machine.proofs.Machine.{the-type as machine-type}
 use Rattle.machine.proofs.Machine.Laws.{the-laws as machine-laws}
-use Rattle.machine.proofs.reports.Reports.{the-type as reports-type}
-use Rattle.machine.proofs.reports.Reports.Laws.{the-laws as reports-laws}
 use Rattle.machine.proofs.reporting.Reporting.{the-type as reporting-type}
 use Rattle.machine.proofs.reporting.Reporting.Laws.{the-laws as reporting-laws}
 use Rattle.machine.proofs.state.State.{the-type as state-type}
 use Rattle.machine.proofs.state.State.Laws.{the-laws as state-laws}
-
-pub reports-size : (r : Reports) → Is (row reports-type) r (val reports-type reports-laws r ∷ []) → length (r .items) ≡ reportRoom
-reports-size r g = sym (length-map (r .items) _) ∙ (owed reports-type reports-laws r _ g) .0 .1 .0 .1
 
 pub wakes-size : (m : Machine) → Is (row machine-type) m (val machine-type machine-laws m ∷ []) → length (m .wakes) ≡ 16
 wakes-size m g = sym (length-map (m .wakes) _) ∙ (owed machine-type machine-laws m _ g) .1 .1 .1 .0 .1 .0 .1

@@ -15,11 +15,11 @@ use Rattle.model.specs.Priorities.{greatestHold, current, chosen}
 use Rattle.model.specs.Calls.{switch}
 use Rattle.model.proofs.Tests.{split, is-true, is-false, same-eq, same-refl}
 use Rattle.model.proofs.Laws.{chosen-is}
-use Rattle.machine.specs.declared.reports.Reports.{Reports}
+use Rattle.due.specs.declared.reports.Reports.{Reports}
 use Rattle.machine.specs.declared.Machine.{Machine}
 use Rattle.lists.specs.Lists.{numbered}
 use Rattle.lists.proofs.Laws.{numbered-threadOf, threadOf-numbered}
-use Rattle.machine.specs.Lists.{threadOf, reportRoom, owed}
+use Rattle.due.specs.Lists.{threadOf, reportRoom, owed}
 use Rattle.machine.specs.View.{planOf, viewed, idle}
 use Rattle.machine.specs.Contracts.{Chooses}
 

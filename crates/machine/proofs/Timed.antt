@@ -20,10 +20,10 @@ use Rattle.lists.specs.Lists.{numbered}
 use Rattle.clock.specs.declared.timers.Timers.{Timers}
 use Rattle.clock.specs.View as timing
 use Rattle.machine.specs.declared.Machine.{Machine}
-use Rattle.machine.specs.declared.reports.Reports.{Reports}
-use Rattle.machine.specs.declared.reports.Made.{Made}
+use Rattle.due.specs.declared.reports.Reports.{Reports}
+use Rattle.due.specs.declared.made.Made.{Made}
 use Rattle.machine.specs.declared.reporting.Reporting.{Reporting}
-use Rattle.machine.specs.Lists.{owed, Tells}
+use Rattle.due.specs.Lists.{owed, Tells}
 use Rattle.machine.specs.View.{planOf, viewed, idle}
 use Rattle.machine.specs.Contracts.{owing}
 use Rattle.machine.specs.Calls.{Calls, Called}

@@ -10,19 +10,15 @@ use Rattle.model.specs.State.{dormant, asleep, waiting}
 use Rattle.model.proofs.Loops.{listed, length-listed, changed-at}
 use Rattle.plan.proofs.Laws.{threads-view}
 use Rattle.machine.specs.declared.Machine.{Machine}
-use Rattle.machine.specs.declared.reports.Reports.{Reports}
+use Rattle.due.specs.declared.reports.Reports.{Reports}
 use Rattle.machine.specs.declared.slots.Slots.{Slots}
 use Rattle.clock.specs.declared.time.Tick.{Tick}
 use Rattle.lists.specs.Words.{nibble}
 use Rattle.lists.proofs.Laws.{read-set, read-other}
 use Rattle.clock.specs.View.{numberAt}
-use Rattle.machine.specs.Lists.{reportOf, noReport, owed}
+use Rattle.due.specs.Lists.{reportOf, noReport, owed}
 use Rattle.machine.specs.View.{conditionOf, conditionIn, conditionsOf, planOf, idle}
 use Rattle.machine.specs.Contracts.{placed, waitsFor}
-
--- a view has as many entries as are in use
-pub length-owed : (rs : Reports) → length (owed rs) ≡ rs .count
-length-owed rs = length-listed (λ i. reportOf (getD (rs .items) i noReport)) (rs .count)
 
 -- there is a condition for each thread of the plan
 pub sized : (m : Machine) → length (idle m .conditions) ≡ threads (planOf m)

@@ -20,10 +20,10 @@ use Rattle.clock.specs.View as timing
 use Rattle.clock.specs.Contracts.{kindPlace}
 use Rattle.machine.specs.declared.slots.Slots.{Slots}
 use Rattle.machine.specs.declared.Machine.{Machine}
-use Rattle.machine.specs.declared.reports.Made.{Made}
+use Rattle.due.specs.declared.made.Made.{Made}
 use Rattle.machine.specs.declared.reporting.Reporting.{Reporting}
 use Rattle.machine.specs.declared.state.State.{State}
-use Rattle.machine.specs.Lists.{reportRoom, Tells}
+use Rattle.due.specs.Lists.{reportRoom, Tells}
 use Rattle.machine.specs.View.{conditionIn, planOf, idle, view, reportAt, shown}
 use Rattle.machine.specs.Rules.{ruleNumber, dueRule}
 use Rattle.machine.specs.Contracts.{Ceilings, nextEventOf}
@@ -55,11 +55,16 @@ pub record Asks (c : Reporting) (ceilings : List ℕ) (r : records.Record) : Typ
   pub allowed' : T (records.allowed (planOf (c .machine)) r)
   pub tick' : r ≡ records.call records.Tick → c .machine .tick .0 < lastTick
 
--- a call with nothing due, where the arming has come to its place
+-- a call other than Tick with nothing due, where the arming has come to its place
 pub record Calls (c : Reporting) (ceilings : List ℕ) (k : records.Call) : Type 0 where
   pub asks : Asks c ceilings (records.call k)
   pub undue : c .due ≤ c .given
   pub ordered : stage (timing.view (c .machine .timers) .arming) ≡ callPlace k
+
+-- a Tick outside an arming, whatever is due
+pub record Ticks (c : Reporting) (ceilings : List ℕ) : Type 0 where
+  pub asks : Asks c ceilings (records.call records.Tick)
+  pub ordered : stage (timing.view (c .machine .timers) .arming) ≡ 0
 
 -- a call that sets timers moves no thread, so the ceilings of its plan are asked for, and none need be passed
 abbrev pub Sets : Reporting → records.TimerCall → Type 0

@@ -26,11 +26,11 @@ use Rattle.clock.specs.Contracts.{soonest as soonestExpiry}
 use Rattle.machine.specs.declared.Machine.{Machine}
 use Rattle.machine.specs.declared.slots.Slots.{Slots}
 use Rattle.machine.specs.declared.sleepers.Woken.{Woken}
-use Rattle.machine.specs.declared.reports.Report.{Report}
-use Rattle.machine.specs.declared.reports.Reports.{Reports}
+use Rattle.due.specs.declared.reports.Report.{Report}
+use Rattle.due.specs.declared.reports.Reports.{Reports}
 use Rattle.machine.specs.declared.reporting.Reporting.{Reporting}
 use Rattle.machine.specs.declared.state.State.{State}
-use Rattle.machine.specs.Lists.{reportOf}
+use Rattle.due.specs.Lists.{reportOf, IsReport}
 use Rattle.machine.specs.View.{planOf, idle, view}
 
 -- a thread comes into another condition, or waits for a section
@@ -95,11 +95,6 @@ pub record Starts (r : Machine) (p : Plan) : Type 0 where
 pub record Fresh (r : State) (p : Plan) : Type 0 where
   pub plan' : r .machine .plan ≡ p
   pub seen : view r ≡ state.start (plans.view p)
-
--- a report of one of the papers' kinds
-pub record IsReport (r : Report) : Type 0 where
-  pub least : 16 ≤ r .kind
-  pub most : r .kind ≤ 22
 
 -- a well-formed state with something due
 pub record Owes (s : State) : Type 0 where

@@ -1,5 +1,4 @@
 -- What a reader must believe of this crate: which state of the model the code's structs stand for, and what its functions ask and answer.
-pub mod Lists
 pub mod View
 pub mod Rules
 pub mod Contracts

@@ -5,8 +5,7 @@ use Prim.Native.Nat.{ℕ}
 use Rattle.model.specs.Records as records
 use Rattle.machine.specs.declared.record.Record.{Record}
 use Rattle.machine.specs.declared.record.Record.the-variants.{Create, Delay, Relinquish, End, Take, Give, Tick, Arm, Start, Period, Cancel, Report}
-use Rattle.machine.specs.Lists.{reportOf}
-use Rattle.machine.specs.Contracts.{IsReport}
+use Rattle.due.specs.Lists.{reportOf, IsReport}
 
 abbrev pub recordOf : Record → records.Record
 recordOf (Create t) = records.call (records.Create t)

@@ -12,7 +12,7 @@ use Rattle.lists.specs.Words.{nibble}
 use Rattle.lists.specs.Lists.{numbered, held}
 use Rattle.clock.specs.declared.timers.Timers.{Timers}
 use Rattle.clock.specs.View.{view}
-use Rattle.machine.specs.declared.reports.Report.{Report}
+use Rattle.due.specs.declared.reports.Report.{Report}
 use Rattle.machine.specs.declared.slots.Slots.{Slots}
 
 -- a rule as a number: 0 if none is broken

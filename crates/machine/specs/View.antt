@@ -18,10 +18,10 @@ use Rattle.clock.specs.View.{numberAt}
 use Rattle.machine.specs.declared.slots.Slots.{Slots}
 use Rattle.machine.specs.declared.Machine.{Machine}
 use Rattle.machine.specs.declared.state.State.{State}
-use Rattle.machine.specs.declared.reports.Report.{Report}
-use Rattle.machine.specs.declared.reports.Reports.{Reports}
+use Rattle.due.specs.declared.reports.Report.{Report}
+use Rattle.due.specs.declared.reports.Reports.{Reports}
 use Rattle.machine.specs.declared.reporting.Reporting.{Reporting}
-use Rattle.machine.specs.Lists.{threadOf, noReport, switchTo, listed, owed}
+use Rattle.due.specs.Lists.{threadOf, noReport, switchTo, listed, owed}
 
 -- a condition by its number: 0 dormant, 1 ready, 2 asleep until a tick number, 3 waiting for a section. Any other number stands for a wait
 -- for a section that no plan has, so that answer 12 is a question about the state alone.

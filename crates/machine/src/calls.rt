@@ -1,15 +1,15 @@
-// What each call does. A method takes the machine by value, with nothing due, and hands it back with all the reports that the call makes due,
-// its Switch last, or with the rule that it breaks. With nothing due the chosen thread is the one last reported: it is the caller.
+// What each call does. A method takes the machine by value, and hands it back with all the reports that are then due, the Switch last, or with the rule
+// that the call breaks. Calls other than Tick come with nothing due: the chosen thread is the one last reported, and it is the caller.
 ghost use Rattle.model.specs.Records as records;
-ghost use Rattle.machine.specs.Calls.{Calls, Called};
+ghost use Rattle.machine.specs.Calls.{Calls, Ticks, Called};
 use crate::quiet::next_event;
 use crate::reporting::Reporting;
-use crate::reports::Made;
-use crate::reports::Reports;
 use crate::rules;
 use crate::sleepers::wake;
 use clock::time::Tick;
 use clock::time::Wait;
+use due::made::Made;
+use due::reports::Reports;
 use lists::choice;
 use plan::lookup::base;
 
@@ -34,9 +34,10 @@ impl Reporting {
         c.owing(m, rule, who, self.quiet)
     }
 
-    // Tick: see model, Calls.tick. It walks over the sleepers in the order of their Delays; what happens next is asked anew.
+    // Tick: see model, Calls.tick. It walks over the sleepers in the order of their Delays; what happens next is asked anew. The reports still due but a
+    // Switch stand before its own.
     pub fn tick(self, ceilings: &[u8; 16]) -> Reporting
-        requires { ⌜ Calls self (now ceilings) records.Tick ⌝ }
+        requires { ⌜ Ticks self (now ceilings) ⌝ }
         ensures { λ r. ⌜ Called r self records.Tick ⌝ }
     {
         let now = self.machine.tick;
@@ -50,7 +51,8 @@ impl Reporting {
             self.machine.slots,
             self.machine.queue,
         );
-        let rs = Reports::expired(timers, number).readied(w.woken);
+        let kept = self.array().without_switch(self.given);
+        let rs = kept.expired(timers, number).readied(w.woken);
         let later = timers.moved_on(number);
         let quiet = next_event(w.delays, wakes, later);
         let mut m = self.machine;

@@ -1,16 +1,16 @@
-// Reports, and records where reports are due or that stand outside their place in an arming: rules 21, 28 to 30 and 31.
+// Reports, and records other than Tick where reports are due, or any that stand outside their place in an arming: rules 21, 28 to 30 and 31.
 ghost use mathlib.Core.Path.{_≡_};
-ghost use mathlib.Core.Bool.{not, _||_};
+ghost use mathlib.Core.Bool.{not, _&&_, _||_};
 ghost use Prim.Native.Nat.{_<_};
-ghost use lib.Dec.{T, ltb};
+ghost use lib.Dec.{T, eqb, ltb};
 ghost use Rattle.model.specs.Formed.{armingInRange};
 ghost use Rattle.clock.specs.View as timing;
-ghost use Rattle.machine.specs.Lists.{reportRoom};
+ghost use Rattle.due.specs.Lists.{reportRoom};
 ghost use Rattle.machine.specs.View.{reportAt};
 ghost use Rattle.machine.specs.Calls.{inPlace, Hearing, Hears, unasked};
 use crate::reporting::Reporting;
-use crate::reports::Report;
 use crate::rules::due_rule;
+use due::reports::Report;
 
 impl Reporting {
     // The report due first: one of the array, or the Switch behind them.
@@ -27,12 +27,12 @@ impl Reporting {
         first
     }
 
-    // Whether a record of this kind is no call to be made: a report is due, or the record stands outside its place.
+    // Whether a record of this kind is no call to be made: a report is due and it is no Tick, or it stands outside its place.
     pub fn hears(self, kind: u8) -> bool
         requires { ⌜ T (armingInRange (timing.view (self .machine .timers) .arming)) ⌝ }
-        ensures { λ r. ⌜ r ≡ ltb (self .given) (self .due) || not (inPlace (self .machine) kind) ⌝ }
+        ensures { λ r. ⌜ r ≡ not (eqb kind 7) && ltb (self .given) (self .due) || not (inPlace (self .machine) kind) ⌝ }
     {
-        self.given < self.due || !self.machine.timers.in_order(kind)
+        kind != 7 && self.given < self.due || !self.machine.timers.in_order(kind)
     }
 
     // Such a record, by its kind and operand: outside its place it breaks 31; a call breaks 21, and a report is the first due or breaks 29 or 30. A

@@ -1,10 +1,9 @@
 // The machine that says what a module's kernel does, with all the reports that it owes. It knows nothing of dumps.
-pub mod reports; // reports.rt: reports, and a list of them
 pub mod slots; // slots.rt: the conditions of the threads
 pub mod sleepers; // sleepers.rt: who wakes, and when the next one does
 mod rules; // rules.rt: the questions asked of a record
 pub mod record; // record.rt: a call with its operand, or a report
-pub mod reporting; // reporting.rt: a machine with the reports of its latest call
+pub mod reporting; // reporting.rt: a machine with its reports
 pub mod calls; // calls.rt: what each call does
 pub mod timing; // timing.rt: what the calls that set timers do
 pub mod heard; // heard.rt: reports, and records where reports are due or an arming is in progress

@@ -1,7 +1,8 @@
-// Ticks at which nothing happens: nobody wakes and no timer expires, so that no Switch becomes due and they move the tick number alone.
+// Ticks at which nothing happens: nothing is due, nobody wakes and no timer expires, so that no Switch becomes due and they move the tick number alone.
 ghost use mathlib.Core.Path.{_≡_};
 ghost use Prim.Native.Nat.{_+_, _≤_, _<_};
-ghost use lib.Dec.{ltb};
+ghost use mathlib.Core.Bool.{_&&_};
+ghost use lib.Dec.{leb, ltb};
 ghost use Rattle.model.specs.Formed.{lastTick};
 ghost use Rattle.machine.specs.Contracts.{nextEvent, passed, still, later};
 use crate::reporting::Reporting;
@@ -29,15 +30,15 @@ pub(crate) fn next_event(delays: Queue, wakes: [Tick; 16], timers: Timers) -> Ti
 }
 
 impl Reporting {
-    // Whether the next Tick wakes nobody and no timer expires at it.
+    // Whether nothing is due, and the next Tick wakes nobody and no timer expires at it.
     pub fn is_quiet(self) -> bool
         requires { ⌜ self .machine .tick .0 < lastTick ⌝ }
-        ensures { λ r. ⌜ r ≡ ltb (self .machine .tick .0 + 1) (self .quiet .0) ⌝ }
+        ensures { λ r. ⌜ r ≡ leb (self .due) (self .given) && ltb (self .machine .tick .0 + 1) (self .quiet .0) ⌝ }
     {
         let now = self.machine.tick;
         let number = now.next();
         let until = self.quiet;
-        number.0 < until.0
+        self.due <= self.given && number.0 < until.0
     }
 
     // The tick number grows, and nothing else changes.

@@ -1,6 +1,6 @@
 // A record: what a thread or the clock called, or what the kernel did.
-use crate::reports::Report;
 use clock::time::Wait;
+use due::reports::Report;
 
 // A call with its operand, or a report.
 pub enum Record {

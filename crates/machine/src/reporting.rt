@@ -1,27 +1,27 @@
-// A machine with the reports of its latest call. The Switch stands apart from the array: there is at most one, and it is last, so that of every
-// call but a Tick each report has a place that is known when the code is compiled.
+// A machine with its reports. The Switch stands apart from the array: there is at most one, and it is last, so that of every call but a Tick each
+// report has a place that is known when the code is compiled.
 ghost use mathlib.Core.Path.{_≡_};
 ghost use Prim.Native.Nat.{_<_};
 ghost use Rattle.model.specs.Priorities.{chosen};
 ghost use Rattle.lists.specs.Lists.{numbered};
-ghost use Rattle.machine.specs.Lists.{reportRoom, Stores};
+ghost use Rattle.due.specs.Lists.{reportRoom, Stores};
 ghost use Rattle.machine.specs.View.{planOf, idle, reportsIn};
 ghost use Rattle.machine.specs.Contracts.{Starts, Chooses, owing};
 use crate::Machine;
-use crate::reports::Made;
-use crate::reports::ROOM;
-use crate::reports::Report;
-use crate::reports::Reports;
 use crate::slots::Slots;
 use clock::time::Tick;
 use clock::timers::Timers;
+use due::made::Made;
+use due::reports::ROOM;
+use due::reports::Report;
+use due::reports::Reports;
 use lists::choice;
 use lists::holds::Holds;
 use lists::queue::Queue;
 use plan::Plan;
 
-// `count` reports stand in the array; `due` is how many the call made due, one more where a Switch is among them, to the thread `chosen` after the call.
-// The first `given` are given.
+// `count` reports stand in the array; `due` is how many were due after the latest call, one more where a Switch is among them, to the thread `chosen`
+// after it. The first `given` are given.
 // Nothing happens before the tick number `quiet`. `rule` is the one that the latest record broke, 0 if there is none.
 pub struct Reporting {
     pub machine: Machine,
@@ -78,6 +78,17 @@ impl Reporting {
         c.reports[1] = second;
         c.count = made.count;
         c
+    }
+
+    // The reports of the array.
+    pub(crate) fn array(self) -> Reports
+        ensures { λ r. ⌜ r ≡ reportsIn self ⌝ }
+    {
+        let items = self.reports;
+        Reports {
+            items,
+            count: self.count,
+        }
     }
 
     // With these reports.

@@ -3,9 +3,9 @@ ghost use mathlib.Core.Path.{_≡_};
 ghost use Prim.Native.Nat.{_≤_, _<_};
 ghost use Rattle.model.specs.Records.{timerCount};
 ghost use Rattle.machine.specs.Rules.{createRule, freeRule, takeRule, giveRule, runRule, cancelRule, dueRule};
-use crate::reports::Report;
 use crate::slots::Slots;
 use clock::timers::Timers;
+use due::reports::Report;
 use lists::holds::Holds;
 use plan::lookup::may_take;
 

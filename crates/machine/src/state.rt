@@ -7,9 +7,9 @@ ghost use Rattle.machine.specs.Contracts.{Fresh, Owes, FirstDue, Deliver
 ghost use Rattle.machine.specs.Calls.{Apart, Closes};
 use crate::Machine;
 use crate::reporting::Reporting;
-use crate::reports::Report;
-use crate::reports::Reports;
 use clock::time::Tick;
+use due::reports::Report;
+use due::reports::Reports;
 use plan::Plan;
 
 // The reports due are those behind the first `given`.

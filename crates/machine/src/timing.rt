@@ -4,10 +4,10 @@ ghost use Prim.Native.Nat.{_≤_};
 ghost use Rattle.model.specs.Records as records;
 ghost use Rattle.machine.specs.Calls.{Sets, Called, Timed};
 use crate::reporting::Reporting;
-use crate::reports::Made;
 use crate::rules;
 use clock::time::Tick;
 use clock::timers::Timers;
+use due::made::Made;
 
 impl Reporting {
     // Arm: see model, Timers.setTimer.

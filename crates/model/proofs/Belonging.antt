@@ -10,18 +10,26 @@ use lib.Dec.{T, leb, leb→le, nleb→lt, T-not}
 use lib.ListN.{length}
 use Rattle.model.specs.Searches.{all}
 use Rattle.model.specs.Plan.{Plan}
-use Rattle.model.specs.Records.{Call, Take, Give, Report, Won, Lost, Record, call, report, reportKind, isTick}
+use Rattle.model.specs.Records.{Call, Take, Give, Report, Won, Lost, Record, call, report, reportKind, isSwitch, isTick}
+use Rattle.model.specs.State.{withoutSwitch}
 use Rattle.model.specs.Words.{Is, TakeOrGive, Belongs}
-use Rattle.model.proofs.Tests.{split, and-left, and-right, equal?}
-use Rattle.model.proofs.Searches.{all-append}
+use Rattle.model.proofs.Tests.{split, is-true, and-left, and-right, equal?}
+use Rattle.model.proofs.Searches.{all-at, all-append, filtered, all-in}
 use Rattle.model.proofs.Holdings.{callOf}
-use Rattle.model.proofs.Dues.{plain, Grows, behind, afresh, given, grows}
+use Rattle.model.proofs.Dues.{plain, plain-else, Grows, behind, afresh, given, grows}
 use Rattle.model.proofs.Numbered.{look, below, same-record}
 use Rattle.model.proofs.Trace.{Trace, invariant, idle-take-or-give, first-is-due}
 
 -- no Won or Lost is due, or d is the only one, first
 abbrev Front : Report → List Report → Type 0
-Front d due = T (all plain due) ⊎ ((ds : List Report) × (due ≡ d ∷ ds) × T (all plain ds))
+Front d due = T (all plain due) ⊎ ((ds : List Report) × (due ≡ d ∷ ds) × T (all plain ds) × T (not (plain d)))
+
+-- a Won or Lost in front stays there when a Switch is dropped
+won-or-lost-stays : (d : Report) (ds : List Report) → T (not (plain d)) → withoutSwitch (d ∷ ds) ≡ d ∷ withoutSwitch ds
+won-or-lost-stays d ds n = rw (is-true (not (isSwitch d)) (plain-else d n))
+
+plain-stays : (due : List Report) → T (all plain due) → T (all plain (withoutSwitch due))
+plain-stays due t = all-in plain (withoutSwitch due) (λ d m. all-at plain due t (filtered (λ d. not (isSwitch d)) due m .0))
 
 module _ (p : Plan) (rs : List Record) (tr : Trace p rs) where
   grows-at : (k : ℕ) (h : k < length rs) → Grows (tr .at k) (look rs k h .0) (tr .at (suc k))
@@ -39,9 +47,10 @@ module _ (p : Plan) (rs : List Record) (tr : Trace p rs) where
       take-or-give s (inr e) = (s, inr (r .1 ∙ ap {B = Option Record} some e))
 
       go : Grows (tr .at k) (r .0) (tr .at (suc k)) → Front d (tr .at k .due) → Front d (tr .at (suc k) .due)
-      go (behind c reps e i t q) (inl u) = inl (rw q (all-append plain (tr .at k .due) reps u t))
-      go (behind c reps e i t q) (inr u) = inr (u .0 ++ reps, q ∙ ap (λ (l : List Report). l ++ reps) (u .1), all-append plain (u .0) reps (u .2) t)
-      go (afresh s x reps e i t q f) u = absurd (none-here (take-or-give s e))
+      go (behind c reps e i t q) (inl u) = inl (rw q (all-append plain (withoutSwitch (tr .at k .due)) reps (plain-stays (tr .at k .due) u) t))
+      go (behind c reps e i t q) (inr u) =
+          inr (withoutSwitch (u .0) ++ reps, q ∙ ap (λ (l : List Report). l ++ reps) (ap withoutSwitch (u .1) ∙ won-or-lost-stays d (u .0) (u .3)), all-append plain (withoutSwitch (u .0)) reps (plain-stays (u .0) (u .2)) t, u .3)
+      go (afresh s x reps e i n t q f) u = absurd (none-here (take-or-give s e))
       go (given x e q) (inl u) = inl (and-right (plain x) (all plain (tr .at (suc k) .due)) (rw q at u))
       go (given x e q) (inr u) = inl (rw (tail-eq-of-cons-eq (sym q ∙ u .1)) (u .2))
 
@@ -78,10 +87,10 @@ module _ (p : Plan) (rs : List Record) (tr : Trace p rs) where
 
       go : Grows (tr .at i) (look rs i i< .0) (tr .at (suc i)) → (ds : List Report) × (tr .at (suc i) .due ≡ e ∷ ds)
       go (behind c reps x k t q) = absurd (omega (arith, ap reportKind (end (Won 0) (inl (rw (q, idle) t))), ap reportKind (end (Lost 0) (inl (rw (q, idle) t)))))
-      go (afresh s d reps x k t q f) = (reps, q ∙ ap {B = List Report} (λ y. y ∷ reps) (end d (inr (reps, q, t))))
+      go (afresh s d reps x k n t q f) = (reps, q ∙ ap {B = List Report} (λ y. y ∷ reps) (end d (inr (reps, q, t, n))))
       go (given d x q) = absurd (cons≢nil (sym q ∙ idle))
 
-  -- what is due is written by the time that nothing is, with only Ticks before it
+  -- a Won or Lost first due is written by the time that nothing is due, with only Ticks before it
   pub record Written (a k : ℕ) (d : Report) : Type 0 where
     pub place : ℕ
     pub from : a ≤ place
@@ -89,9 +98,9 @@ module _ (p : Plan) (rs : List Record) (tr : Trace p rs) where
     pub is : Is rs place (report d)
     pub ticks : (e : ℕ) → a ≤ e → e < place → (c : Call) × T (isTick c) × Is rs e (call c)
 
-  written : (m a k : ℕ) (d : Report) (ds : List Report) → a + m ≡ k → tr .at a .due ≡ d ∷ ds → k ≤ length rs → tr .at k .due ≡ [] → Written a k d
-  written zero a k d ds h e n q = let z : a ≡ k = omega arith in absurd (cons≢nil (sym e ∙ ap (λ (x : ℕ). tr .at x .due) z ∙ q))
-  written (suc m) a k d ds h e n q = go (grows-at a a<) (λ l x. written m (suc a) k d l (omega arith) x n q)
+  written : (m a k : ℕ) (d : Report) (ds : List Report) → T (not (plain d)) → a + m ≡ k → tr .at a .due ≡ d ∷ ds → k ≤ length rs → tr .at k .due ≡ [] → Written a k d
+  written zero a k d ds v h e n q = let z : a ≡ k = omega arith in absurd (cons≢nil (sym e ∙ ap (λ (x : ℕ). tr .at x .due) z ∙ q))
+  written (suc m) a k d ds v h e n q = go (grows-at a a<) (λ l x. written m (suc a) k d l v (omega arith) x n q)
     where
       a< : a < length rs
       a< = omega arith
@@ -104,13 +113,13 @@ module _ (p : Plan) (rs : List Record) (tr : Trace p rs) where
           record { place = w .place; from = omega (arith, w .from); before = w .before; is = w .is; ticks = λ y f g. ticks y f g (equal? y a) }
         where
           w : Written (suc a) k d
-          w = ih (ds ++ reps) (z ∙ ap (λ (l : List Report). l ++ reps) e)
+          w = ih (withoutSwitch ds ++ reps) (z ∙ ap (λ (l : List Report). l ++ reps) (ap withoutSwitch e ∙ won-or-lost-stays d ds v))
 
           ticks : (y : ℕ) → a ≤ y → y < w .place → (y ≡ a) ⊎ (y ≢ a) → (c : Call) × T (isTick c) × Is rs y (call c)
           ticks y f g (inl o) = (c, t, subst (λ (j : ℕ). Is rs j (call c)) (sym o) (r .1 ∙ ap {B = Option Record} some x))
           ticks y f g (inr o) = w .ticks y (omega arith) g
       go (behind c reps x (inr i) u z) ih = absurd (cons≢nil (sym e ∙ i))
-      go (afresh s x reps i y t z f) ih = absurd (cons≢nil (sym e ∙ y))
+      go (afresh s x reps i y n' t z f) ih = absurd (cons≢nil (sym e ∙ y))
       go (given x y z) ih =
           record { place = a; from = omega arith; before = omega arith; is = r .1 ∙ ap {B = Option Record} some (y ∙ ap report (head-eq-of-cons-eq (sym z ∙ e))); ticks = λ y f g. absurd (omega arith) }
 
@@ -121,8 +130,8 @@ module _ (p : Plan) (rs : List Record) (tr : Trace p rs) where
     pub within : when ≤ length rs
     pub idle : tr .at when .due ≡ []
 
-  pub write : (a : ℕ) (d : Report) (ds : List Report) (m : Moment a) → tr .at a .due ≡ d ∷ ds → Written a (m .when) d
-  write a d ds m e = let z : a + (m .when - a) ≡ m .when = omega (arith, m .later) in written (m .when - a) a (m .when) d ds z e (m .within) (m .idle)
+  pub write : (a : ℕ) (d : Report) (ds : List Report) (m : Moment a) → T (not (plain d)) → tr .at a .due ≡ d ∷ ds → Written a (m .when) d
+  write a d ds m v e = let z : a + (m .when - a) ≡ m .when = omega (arith, m .later) in written (m .when - a) a (m .when) d ds v z e (m .within) (m .idle)
 
   -- a Tick is no Take or Give
   not-tick : (k : ℕ) (c : Call) → T (isTick c) → Is rs k (call c) → TakeOrGive rs k → ⊥

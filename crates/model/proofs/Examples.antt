@@ -6,4 +6,5 @@ pub mod TwoLower
 pub mod Wake
 pub mod Timing
 pub mod Waking
+pub mod Interrupted
 pub mod Unclean

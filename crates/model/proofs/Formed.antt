@@ -11,11 +11,12 @@ use Rattle.model.specs.Searches.{all, isEmpty, upTo, same}
 use Rattle.model.specs.Plan.{Plan, threads, validPlan}
 use Rattle.model.specs.Records.{timerCount, Report, report, isThread, allowed}
 use Rattle.model.specs.Timers.{Timer, Arming, noArming, afterArm, afterStart, slot, timerGiven}
-use Rattle.model.specs.State.{Condition, dormant, ready, asleep, waiting, Hold, State, condition}
+use Rattle.model.specs.State.{Condition, dormant, ready, asleep, waiting, Hold, State, condition, withoutSwitch}
 use Rattle.model.specs.Priorities.{chosen}
-use Rattle.model.specs.Formed.{lastTick, lastWake, lastExpiry, conditionInRange, areThreads, holdInRange, numbersInRange, armingInRange, timerInRange, timersInRange, times, heldOnce, inQueue, inWaits, standsOnce, allStandOnce, inDelays, delaysNamed, dueInRange, shownAtRest, formedMachine, formedReports, formed}
+use Rattle.model.specs.Formed.{lastTick, lastWake, lastExpiry, conditionInRange, areThreads, holdInRange, numbersInRange, armingInRange, timerInRange, timersInRange, times, heldOnce, inQueue, inWaits, standsOnce, allStandOnce, inDelays, delaysNamed, dueInRange, shownAtRest, switchLast, owedNone, claims, formedMachine, formedReports, formed}
 use Rattle.model.proofs.Tests.{and-left, and-right, and-both, eq-test, same-eq, same-refl}
-use Rattle.model.proofs.Searches.{all-at, all-in, Pairwise, Distinct, in-upTo}
+use Rattle.model.proofs.Searches.{all-at, all-in, Pairwise, Distinct, in-upTo, pigeonhole}
+use Rattle.model.proofs.Loops.{filter-few}
 use Rattle.model.proofs.Counting.{counted, found, once-apart, apart-once}
 use Rattle.model.proofs.Invariant.{tag, OtherSection, Agree, Sleeps}
 use Rattle.model.proofs.Agreement.{inside}
@@ -47,6 +48,19 @@ pub record WellFormed (p : Plan) (st : State) : Type 0 where
   pub known : (d : Report) → Mem d (st .due) → T (allowed p (report d))
   -- with nothing due the chosen thread is the last reported
   pub shown' : st .due ≡ [] → st .reported ≡ chosen p st
+  -- a Switch due is last, and what has a claim on the room for reports finds it
+  pub last : T (switchLast (st .due))
+  pub room : claims st ≤ threads p + 9
+
+-- where nothing is due there is room: threads sleep once each, and there are eight timers
+pub rest-claims : (p : Plan) (st : State) → Standing p st → st .due ≡ [] → claims st ≤ threads p + 9
+rest-claims p st w e =
+    omega (
+      arith,
+      ap (λ (l : List Report). length (withoutSwitch l)) e,
+      pigeonhole (threads p) (st .delays) (w .delayed .delaysOnce) (λ t m. omega (arith, w .agree .sized, delayed-below (w .delayed) t m)),
+      filter-few (owedNone (st .timers) (st .due)) (upTo timerCount),
+    )
 
 -- which condition stands once in the queue, and which in the waits
 
@@ -197,15 +211,16 @@ well-standing p st sized t =
 pub well-formed : (p : Plan) (st : State) → length (st .conditions) ≡ threads p → T (formed p st) → WellFormed p st
 unfolding formed formedReports
 well-formed p st sized t =
-    let u = and-right (formedMachine p st) (formedReports p st) t in
-    let due = and-left (dueInRange p (st .due)) (shownAtRest p st) u in
+    let q = four (dueInRange p (st .due)) (shownAtRest p st) (switchLast (st .due)) (leb (claims st) (threads p + 9)) (and-right (formedMachine p st) (formedReports p st) t) in
     let few = leb (length (st .due)) (threads p + 9) in
     let known = all (λ d. allowed p (report d)) (st .due) in
     record {
       standing = well-standing p st sized (and-left (formedMachine p st) (formedReports p st) t);
-      few = leb→le (length (st .due)) (threads p + 9) (and-left few known due);
-      known = λ d i. all-at (λ d. allowed p (report d)) (st .due) (and-right few known due) i;
-      shown' = λ e. same-eq (st .reported) (chosen p st) (subst (λ (l : List Report). T (not (isEmpty l) || same (st .reported) (chosen p st))) e (and-right (dueInRange p (st .due)) (shownAtRest p st) u));
+      few = leb→le (length (st .due)) (threads p + 9) (and-left few known (q .0));
+      known = λ d i. all-at (λ d. allowed p (report d)) (st .due) (and-right few known (q .0)) i;
+      shown' = λ e. same-eq (st .reported) (chosen p st) (subst (λ (l : List Report). T (not (isEmpty l) || same (st .reported) (chosen p st))) e (q .1));
+      last = q .2;
+      room = leb→le (claims st) (threads p + 9) (q .3);
     }
 
 -- and back: a state with these facts has the answer Yes to each
@@ -311,9 +326,11 @@ pub passes-all : (p : Plan) (st : State) → WellFormed p st → T (formed p st)
 unfolding formed formedReports
 passes-all p st w =
     and-both (formedMachine p st) (formedReports p st) (passes-machine p st (w .standing))
-    (and-both (dueInRange p (st .due)) (shownAtRest p st)
+    (both-four (dueInRange p (st .due)) (shownAtRest p st) (switchLast (st .due)) (leb (claims st) (threads p + 9))
     (and-both (leb (length (st .due)) (threads p + 9)) (all (λ d. allowed p (report d)) (st .due)) (le→leb (length (st .due)) (threads p + 9) (w .few)) (all-in (λ d. allowed p (report d)) (st .due) (w .known)))
-    (shows (st .due) refl))
+    (shows (st .due) refl)
+    (w .last)
+    (le→leb (claims st) (threads p + 9) (w .room)))
   where
     shows : (l : List Report) → st .due ≡ l → T (not (isEmpty l) || same (st .reported) (chosen p st))
     shows [] e = subst (λ (o : Option ℕ). T (same o (chosen p st))) (sym (w .shown' e)) (same-refl (chosen p st))

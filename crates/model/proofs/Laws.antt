@@ -6,10 +6,14 @@ pub use Rattle.model.proofs.Kept.{start-has, step-keeps}
 -- conditions and lists that agree; conditions told apart; no section held twice; the order of Delays, who sleeps until a tick number, and a wake
 pub use Rattle.model.proofs.Invariant.{Agree, tag, OtherSection, Sleeps}
 pub use Rattle.model.proofs.Sleeping.{delayed-below, sleeper, wake-up}
--- how long the machine's lists get; what the reports due name
-pub use Rattle.model.proofs.Bounds.{queued-below, waiting-below, queue-fits, waits-fit, mayTake-below, sections-fit, holds-fit, due-fits, due-named}
+-- how long the machine's lists get
+pub use Rattle.model.proofs.Bounds.{queued-below, waiting-below, queue-fits, waits-fit, mayTake-below, sections-fit, holds-fit}
+-- at most T + 9 reports are due, each allowed, a Switch last; and what has a claim on the room for them finds it
+pub use Rattle.model.proofs.Claims.{due-fits, due-named, switch-is-last, claims-fit}
+-- what a Tick and a report given do to the claims, in any state
+pub use Rattle.model.proofs.Owed.{claims-given, tick-claims, tick-due-fits, tick-reported, expired-without, switch-dropped}
 -- answer 12: what a well-formed state tells, and that every state reached is one
-pub use Rattle.model.proofs.Formed.{Standing, WellFormed, well-standing, well-formed, in-arming, passes-machine, passes-all}
+pub use Rattle.model.proofs.Formed.{Standing, WellFormed, rest-claims, well-standing, well-formed, in-arming, passes-machine, passes-all}
 pub use Rattle.model.proofs.Lent.{reached-formed}
 -- the timers: the count lost, where they expire, and that nothing is due inside an arming
 pub use Rattle.model.proofs.Timers.{IsLeast, lost-none, lost-alarm, lost-least, Ahead, AheadIfArmed, armed-soon, TimersFit, timers-fit, Settled, settled}
@@ -26,7 +30,8 @@ pub use Rattle.model.proofs.Performed.{AllYes, all-yes, somebody, dorma
 pub use Rattle.model.proofs.Steps.{judge-run, tick-at-most, broken-rule}
 -- the verdict of a list of records, and of its first records
 pub use Rattle.model.proofs.Prefixes.{run-ended, run-moved, run-broke, clean-steps, clean-count, breach-prefix, clean-before-breach, clean-reached}
--- the bench kernel's list of records, call by call; it is clean with nothing due and no arming in progress, and every such list is the bench kernel's
+-- the bench kernel's list of records, call by call; it is clean with nothing due and no arming in progress, each call with nothing due before it,
+-- and every such list is the bench kernel's
 pub use Rattle.model.proofs.Bench.{bench-begins, bench-ended, bench-moved, bench-broke, settled-reached, given-none, bench-clean, clean-is-bench}
 -- demand 3
 pub use Rattle.model.proofs.Theorem.{promise, promise-before-breach}

@@ -21,6 +21,8 @@ mod Operands
 mod Timers
 mod Bounds
 mod Counting
+mod Owed
+mod Claims
 mod Formed
 mod Give
 -- what one record changes

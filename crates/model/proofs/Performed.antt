@@ -64,7 +64,7 @@ switch-owes p st = go (same (lastReported st) (chosen p st))
     go true = ap (λ (ds : List Report). setDue ds st) (append-nil (st .due))
     go false = refl
 
--- what a record did. Nothing is due before a call; of a Tick no use is made of that, so that it need not hold.
+-- what a record did. Nothing is due before a call other than Tick.
 pub data Moved (p : Plan) (st : State) : Record → State → Type 0 where
   byCall : {k : Call} (mid : State) → T (isTick k) ⊎ (st .due ≡ []) → Performed p st k mid → Moved p st (call k) (mid ▷ owe (switchDue p mid))
   byReport : {r : Report} (ds : List Report) → st .due ≡ r ∷ ds → Moved p st (report r) (st ▷ setReported (switchedTo (st .reported) r) ▷ setDue ds)
@@ -157,16 +157,16 @@ module _ (p : Plan) (st : State) where
       go none q i = (all-yes (questions p st r) q, state-eq (effect p r st) st' i)
       go (some n) q i = absurd (not-broke n st' i)
 
-  -- a call comes with nothing due
-  pub idle : (k : Call) → AllYes (questions p st (call k)) → st .due ≡ []
-  idle (Create t) a = empty-is (st .due) (a .1 .0)
-  idle (Delay n) a = empty-is (st .due) (a .1 .0)
-  idle Relinquish a = empty-is (st .due) (a .1 .0)
-  idle End a = empty-is (st .due) (a .1 .0)
-  idle (Take s) a = empty-is (st .due) (a .1 .0)
-  idle (Give s) a = empty-is (st .due) (a .1 .0)
-  idle Tick a = empty-is (st .due) (a .1 .0)
-  idle (Timing k) a = empty-is (st .due) (a .1 .0)
+  -- a call other than Tick comes with nothing due
+  pub idle : (k : Call) → AllYes (questions p st (call k)) → T (isTick k) ⊎ (st .due ≡ [])
+  idle (Create t) a = inr (empty-is (st .due) (a .1 .0))
+  idle (Delay n) a = inr (empty-is (st .due) (a .1 .0))
+  idle Relinquish a = inr (empty-is (st .due) (a .1 .0))
+  idle End a = inr (empty-is (st .due) (a .1 .0))
+  idle (Take s) a = inr (empty-is (st .due) (a .1 .0))
+  idle (Give s) a = inr (empty-is (st .due) (a .1 .0))
+  idle Tick a = inl tt
+  idle (Timing k) a = inr (empty-is (st .due) (a .1 .0))
 
   -- a report is the first due
   pub reports-first : (r : Report) → AllYes (questions p st (report r)) → st .due ≡ r ∷ tail (st .due)
@@ -250,5 +250,5 @@ module _ (p : Plan) (st : State) (c : SoundState p st) where
   moves r st' e = let q = answered p st r st' e in subst (λ (s : State). Moved p st r s) (q .1) (of r (q .0))
     where
       of : (r : Record) → AllYes (questions p st r) → Moved p st r (effect p r st)
-      of (call k) a = subst (λ (s : State). Moved p st (call k) s) (switch-owes p (perform p k st)) (byCall (perform p k st) (inr (idle p st k a)) (performed k a))
+      of (call k) a = subst (λ (s : State). Moved p st (call k) s) (switch-owes p (perform p k st)) (byCall (perform p k st) (idle p st k a) (performed k a))
       of (report r) a = byReport (tail (st .due)) (reports-first p st r a)

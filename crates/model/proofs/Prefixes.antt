@@ -1,18 +1,19 @@
 -- How the verdict of a run and the state after k records go together.
 use mathlib.Core.Path.{_≡_, refl, ap, sym, subst, _∙_}
-use mathlib.Core.List.{List, [], _∷_}
-use mathlib.Core.Option.{Option·none-ne-some, Option·some-injective}
+use mathlib.Core.List.{List, [], _∷_, cons≢nil, head-eq-of-cons-eq, tail-eq-of-cons-eq}
+use mathlib.Core.Option.{Option, some, Option·none-ne-some, Option·some-injective}
 use Prim.Native.Nat.{ℕ, zero, suc, _+_, _≤_, _<_}
 use native.Mathlib.Omega.{arith}
 use lib.Dec.{T}
 use lib.ListN.{length, take, drop, drop-of-length-le}
-use lib.Seq.{length-take-le}
+use lib.Seq.{length-take-le, drop-nil}
 use Rattle.model.specs.Searches.{all}
 use Rattle.model.specs.Plan.{Plan, validPlan}
-use Rattle.model.specs.Records.{Record, allowed}
+use Rattle.model.specs.Records.{Record, call, report, allowed}
 use Rattle.model.specs.State.{State, start}
 use Rattle.model.specs.Runs.{effect, Outcome, moved, broke, step, Verdict, clean, breach, run, judge, Clean}
 use Rattle.model.specs.Words.{Is, after}
+use Rattle.model.specs.Bench.{Rested}
 use Rattle.model.proofs.Tests.{and-left, and-right, and-both}
 use Rattle.model.proofs.Searches.{all-at}
 use Rattle.model.proofs.Numbered.{look, below, listed}
@@ -23,6 +24,12 @@ is-next : (rs : List Record) (k : ℕ) (r : Record) → Is rs k r → drop k rs 
 is-next [] k r e = absurd (Option·none-ne-some r e)
 is-next (x ∷ rs) zero r e = ap {B = List Record} (λ y. y ∷ rs) (Option·some-injective x r e)
 is-next (x ∷ rs) (suc k) r e = is-next rs k r e
+
+-- the first of what is left after k records is record k
+next-is : (rs : List Record) (k : ℕ) (r : Record) (l : List Record) → drop k rs ≡ r ∷ l → Is rs k r × (drop (suc k) rs ≡ l)
+next-is [] k r l e = absurd (cons≢nil (sym e ∙ drop-nil k))
+next-is (x ∷ rs) zero r l e = (ap {B = Option Record} some (head-eq-of-cons-eq e), tail-eq-of-cons-eq e)
+next-is (x ∷ rs) (suc k) r l e = next-is rs k r l e
 
 pub run-ended : (p : Plan) (i : ℕ) (st : State) → run p i [] st ≡ clean i (length (st .due))
 unfolding run
@@ -90,6 +97,37 @@ ending-after p rs = sym (rest (length rs) (omega arith)) ∙ ap (λ (l : List Re
       where
         go : (r : Record) × Is rs k r → ending p (drop k rs) (after p rs k) ≡ ending p rs (start p) → ending p (drop (suc k) rs) (after p rs (suc k)) ≡ ending p rs (start p)
         go r e = rw (r .1) (rw (is-next rs k (r .0) (r .1)) at e)
+
+-- every call comes with nothing due, in the run from a state
+abbrev pub RestedFrom : Plan → List Record → State → Type 0
+RestedFrom p [] st = Unit {0}
+RestedFrom p (call k ∷ rs) st = (st .due ≡ []) × RestedFrom p rs (effect p (call k) st)
+RestedFrom p (report d ∷ rs) st = RestedFrom p rs (effect p (report d) st)
+
+module _ (p : Plan) (rs : List Record) where
+  after-next : (k : ℕ) (r : Record) → Is rs k r → after p rs (suc k) ≡ effect p r (after p rs k)
+  after-next k r e = rw e
+
+  pub rested-from : Rested p rs → RestedFrom p rs (start p)
+  rested-from h = from rs 0 refl
+    where
+      from : (l : List Record) (k : ℕ) → drop k rs ≡ l → RestedFrom p l (after p rs k)
+      from [] k e = tt
+      from (call c ∷ l) k e = let n = next-is rs k (call c) l e in (h k c (n .0), subst (RestedFrom p l) (after-next k (call c) (n .0)) (from l (suc k) (n .1)))
+      from (report d ∷ l) k e = let n = next-is rs k (report d) l e in subst (RestedFrom p l) (after-next k (report d) (n .0)) (from l (suc k) (n .1))
+
+  pub rested-at : RestedFrom p rs (start p) → Rested p rs
+  rested-at h i k e = subst (λ (l : List Record). RestedFrom p l (after p rs i)) (is-next rs i (call k) e) (at i (omega (arith, below rs i (call k) e))) .0
+    where
+      later : (r : Record) (l : List Record) (st : State) → RestedFrom p (r ∷ l) st → RestedFrom p l (effect p r st)
+      later (call c) l st f = f .1
+      later (report d) l st f = f
+
+      at : (k : ℕ) → k ≤ length rs → RestedFrom p (drop k rs) (after p rs k)
+      at zero u = h
+      at (suc k) u =
+          let r = look rs k u in
+          subst (RestedFrom p (drop (suc k) rs)) (sym (after-next k (r .0) (r .1))) (later (r .0) (drop (suc k) rs) (after p rs k) (subst (λ (l : List Record). RestedFrom p l (after p rs k)) (is-next rs k (r .0) (r .1)) (at k (omega arith))))
 
 -- the records before a breach
 

@@ -75,6 +75,14 @@ module _ {A : Type 0} where
   filter-all f [] g = refl
   filter-all f (a ∷ l) g = rw (is-true (f a) (g a (here refl)), filter-all f l (λ b m. g b (there m)))
 
+  pub filter-append : (f : A → Bool) (l m : List A) → filter f (l ++ m) ≡ filter f l ++ filter f m
+  filter-append f [] m = refl
+  filter-append f (a ∷ l) m = go (f a) (filter-append f l m)
+    where
+      go : (x : Bool) → filter f (l ++ m) ≡ filter f l ++ filter f m → cond x (a ∷ filter f (l ++ m)) (filter f (l ++ m)) ≡ cond x (a ∷ filter f l) (filter f l) ++ filter f m
+      go true e = ap {B = List A} (λ k. a ∷ k) e
+      go false e = e
+
   better-cases : (f : A → ℕ) (a b : A) → ((better f a (some b) ≡ b) × (f a < f b)) ⊎ ((better f a (some b) ≡ a) × (f b ≤ f a))
   better-cases f a b = go (split (ltb (f a) (f b)))
     where

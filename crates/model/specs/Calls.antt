@@ -8,7 +8,7 @@ use Rattle.model.specs.Searches.{_▷_, all, any, filter, firstGreatest,
 use Rattle.model.specs.Plan.{Plan, base}
 use Rattle.model.specs.Records.{Call, Create, Delay, Relinquish, End, Take, Give, Tick, Timing, TimerCall, Ready, Switch, Won, Lost, Yield, Expire}
 use Rattle.model.specs.Timers.{setTimer, lateDue, expired, moveOn}
-use Rattle.model.specs.State.{Condition, dormant, ready, asleep, waiting, Hold, State, condition, lastReported, setTickNumber, becomes, leaveQueue, joinQueue, arrive, joinWaits, leaveWaits, beginHold, endHold, owe, setDelays, joinDelays, setTimers}
+use Rattle.model.specs.State.{Condition, dormant, ready, asleep, waiting, Hold, State, condition, lastReported, setTickNumber, becomes, leaveQueue, joinQueue, arrive, joinWaits, leaveWaits, beginHold, endHold, dropSwitch, owe, setDelays, joinDelays, setTimers}
 use Rattle.model.specs.Priorities.{heldCeiling, current, chosen}
 
 -- Create (1), thread: it becomes ready at the line's end. Ready due.
@@ -30,12 +30,13 @@ abbrev pub stillAsleep : (number : ℕ) → State → List ℕ
 stillAsleep n st = filter (λ t. not (sleepsUntil n (condition st t))) (st .delays)
 
 -- Tick (7): the tick number grows by one. Sleepers whose tick number this is become ready, in the order of their Delay calls. Ready due for each.
--- Expire (21, timer) is due at its tick before any Ready, lower timer first.
+-- Expire (21, timer) is due at its tick before any Ready, lower timer first. A Switch still due is dropped first: Tick is admitted with reports due.
 unfoldable pub tick : State → State
 tick st =
     let n = suc (st .tickNumber) in
     let woken = sleepers n st in
-    st ▷ setTickNumber n ▷ setTimers (moveOn n (st .timers)) ▷ setDelays (stillAsleep n st) ▷ arrive woken ▷ owe (map Expire (expired n (st .timers)) ++ map Ready woken)
+    let ended = expired n (st .due) (st .timers) in
+    st ▷ dropSwitch ▷ setTickNumber n ▷ setTimers (moveOn n (st .timers)) ▷ setDelays (stillAsleep n st) ▷ arrive woken ▷ owe (map Expire ended ++ map Ready woken)
 
 -- Delay (2), n from 1: the caller sleeps until tick number + n + 1. (A tick number and a number of ticks to wait are separate units:
 -- only number plus wait gives a number, here and where a timer expires.)

@@ -1,15 +1,15 @@
 -- Answer 12: what is asked of a state that came from outside, in the words of documents 01 and 02. Such a state need not be one that a run reaches.
 use mathlib.Core.Bool.{Bool, true, not, _&&_, _||_}
-use mathlib.Core.List.{List}
+use mathlib.Core.List.{List, [], _∷_}
 use mathlib.Core.Option.{Option, none, some}
 use Prim.Native.Nat.{ℕ, _+_}
 use lib.Dec.{eqb, leb, ltb}
 use lib.ListN.{length}
 use Rattle.model.specs.Searches.{all, filter, isEmpty, upTo, same}
 use Rattle.model.specs.Plan.{Plan, threads, validPlan}
-use Rattle.model.specs.Records.{timerCount, Report, report, isThread, allowed}
-use Rattle.model.specs.Timers.{Timer, Arming, noArming, afterArm, afterStart, Timers}
-use Rattle.model.specs.State.{Condition, dormant, ready, asleep, waiting, Hold, State, condition}
+use Rattle.model.specs.Records.{timerCount, Report, isSwitch, report, isThread, allowed}
+use Rattle.model.specs.Timers.{Timer, Arming, noArming, afterArm, afterStart, Timers, slot, isArmed, owesExpire}
+use Rattle.model.specs.State.{Condition, dormant, ready, asleep, waiting, Hold, State, condition, withoutSwitch}
 use Rattle.model.specs.Priorities.{chosen}
 
 -- the greatest tick number, the greatest that a sleeper waits for, and the greatest at which a timer expires
@@ -108,13 +108,26 @@ dueInRange p due = leb (length due) (threads p + 9) && all (λ d. allowed p (rep
 abbrev pub shownAtRest : Plan → State → Bool
 shownAtRest p st = not (isEmpty (st .due)) || same (st .reported) (chosen p st)
 
+-- A Switch due isn't last.
+abbrev pub switchLast : List Report → Bool
+switchLast [] = true
+switchLast (d ∷ ds) = (not (isSwitch d) || isEmpty ds) && switchLast ds
+
+-- Reports due but a Switch, sleepers, armed timers owed no Expire, and one together pass T + 9. (The order of Delays names the sleepers.)
+
+abbrev pub owedNone : Timers → List Report → (timer : ℕ) → Bool
+owedNone ts due i = isArmed (slot ts i) && not (owesExpire due i)
+
+abbrev pub claims : State → ℕ
+claims st = length (withoutSwitch (st .due)) + length (st .delays) + times (owedNone (st .timers) (st .due)) (upTo timerCount) + 1
+
 -- the machine, whatever is due
 unfoldable pub formedMachine : Plan → State → Bool
 formedMachine p st = validPlan p && numbersInRange p st && timersInRange (st .timers) && heldOnce (p .sections) (st .holds) && allStandOnce p st && delaysNamed p st
 
 -- what is due
 unfoldable pub formedReports : Plan → State → Bool
-formedReports p st = dueInRange p (st .due) && shownAtRest p st
+formedReports p st = dueInRange p (st .due) && shownAtRest p st && switchLast (st .due) && leb (claims st) (threads p + 9)
 
 -- the answer is not 12
 unfoldable pub formed : Plan → State → Bool

@@ -1,4 +1,4 @@
--- The known runs P1 to P13 of document 01 and P14 of document 02, item 3, each with its verdict.
+-- The known runs P1 to P13 of document 01, P6 with its verdict of document 02, item 4, and P14 of item 3, each with its verdict.
 use mathlib.Core.Path.{_≡_, refl}
 use mathlib.Core.Bool.{_&&_}
 use mathlib.Core.List.{List, [], _∷_, _++_, map}
@@ -127,7 +127,7 @@ runs =
     ∷ known P3 lone [] (clean 0 0)
     ∷ known P4 lone p4 (clean 9 0)
     ∷ known P5 lone (asleep1 ++ made Tick (Ready 0 ∷ [])) (breach 6 28)
-    ∷ known P6 lone (take 7 p4 ++ made Tick []) (breach 7 21)
+    ∷ known P6 lone (take 7 p4 ++ made Tick []) (clean 8 2)
     ∷ known P7 lone (started 0 ++ made Relinquish []) (clean 4 0)
     ∷ known P8 twoSections (started 0 ++ made (Take 0) (Won 0 ∷ []) ++ made (Take 1) (Won 0 ∷ []) ++ made (Give 0) []) (breach 7 27)
     ∷ known P9 oneSection (started 0 ++ made (Take 0) (Won 0 ∷ []) ++ made (Delay 1) []) (breach 5 24)

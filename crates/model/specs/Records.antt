@@ -3,6 +3,7 @@ use mathlib.Core.Bool.{Bool, true, false, cond, _&&_}
 use mathlib.Core.Option.{Option, none, some}
 use Prim.Native.Nat.{ℕ}
 use lib.Dec.{eqb, leb, ltb}
+use Rattle.model.specs.Searches.{same}
 use Rattle.model.specs.Plan.{Plan, threads}
 
 -- eight timers, 0 to 7
@@ -86,6 +87,12 @@ operandNumber (some n) = n
 -- and back: the thread that the operand of a Switch names
 abbrev pub operandThread : (operand : ℕ) → Option ℕ
 operandThread n = cond (eqb n nobody) none (some n)
+
+abbrev pub isSwitch : Report → Bool
+isSwitch r = eqb (reportKind r) 17
+
+abbrev pub isExpire : (timer : ℕ) → Report → Bool
+isExpire i r = eqb (reportKind r) 21 && same (operand r) (some i)
 
 abbrev pub isTick : Call → Bool
 isTick (Create t) = false

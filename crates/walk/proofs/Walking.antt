@@ -1,7 +1,7 @@
 -- A walk over records, turn by turn: what its loop keeps, that every record on the way may be asked about, and that it ends where the run does.
 use mathlib.Core.Path.{_≡_, refl, ap, sym, subst, _∙_}
 use mathlib.Core.Logic.{_⊎_, inl, inr, _≢_}
-use mathlib.Core.Bool.{Bool, true, false, cond, not, _||_, true≢false}
+use mathlib.Core.Bool.{Bool, true, false, cond, not, _&&_, _||_, true≢false}
 use mathlib.Core.List.{List, [], _∷_, map}
 use Prim.Native.Nat.{ℕ, suc, _+_, _-_, _≤_, _<_}
 use native.Mathlib.Numerals.{add-one}
@@ -65,21 +65,25 @@ pub record Walking (plan : Plan) (st : state.State) (bytes : List ℕ) (from to 
 
 -- what a record that is heard, or not, tells
 
-pub heard-due : (given due : ℕ) (b : Bool) → ltb given due || not b ≡ true → T b → given < due
-heard-due given due b e o = ltb-true given due (go (ltb given due) b e o)
+pub heard-due : (kind given due : ℕ) (b : Bool) → not (eqb kind 7) && ltb given due || not b ≡ true → T b → (kind ≢ 7) × (given < due)
+heard-due kind given due b e o = let r = go (eqb kind 7) (ltb given due) b e o in (λ z. true≢false (sym (eq-eqb kind 7 z) ∙ r .0), ltb-true given due (r .1))
   where
-    go : (a b : Bool) → a || not b ≡ true → T b → a ≡ true
-    go true b e o = refl
-    go false true e o = absurd (true≢false (sym e))
-    go false false e o = absurd o
+    go : (t a b : Bool) → not t && a || not b ≡ true → T b → (t ≡ false) × (a ≡ true)
+    go true a true e o = absurd (true≢false (sym e))
+    go true a false e o = absurd o
+    go false true b e o = (refl, refl)
+    go false false true e o = absurd (true≢false (sym e))
+    go false false false e o = absurd o
 
-pub not-heard : (given due : ℕ) (b : Bool) → ltb given due || not b ≡ false → (due ≤ given) × T b
-not-heard given due b e = let r = go (ltb given due) b e in (ltb-false given due (r .0), r .1)
+pub not-heard : (kind given due : ℕ) (b : Bool) → not (eqb kind 7) && ltb given due || not b ≡ false → (kind ≢ 7 → due ≤ given) × T b
+not-heard kind given due b e = let r = go (eqb kind 7) (ltb given due) b e in (λ d. ltb-false given due (r .0 (ne-eqb kind 7 d)), r .1)
   where
-    go : (a b : Bool) → a || not b ≡ false → (a ≡ false) × T b
-    go true b e = absurd (true≢false e)
-    go false true e = (refl, tt)
-    go false false e = absurd (true≢false e)
+    go : (t a b : Bool) → not t && a || not b ≡ false → (t ≡ false → a ≡ false) × T b
+    go true a true e = (λ z. absurd (true≢false z), tt)
+    go true a false e = absurd (true≢false e)
+    go false true b e = absurd (true≢false e)
+    go false false true e = (λ z. refl, tt)
+    go false false false e = absurd (true≢false e)
 
 -- a call that sets timers asks for the ceilings of its plan
 pub plan-ceilings : {c : Reporting} {ceilings : List ℕ} {k : records.TimerCall} → Calls c ceilings (records.Timing k) → Sets c k

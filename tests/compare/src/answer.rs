@@ -1,12 +1,9 @@
 //! Under which word an input is counted.
 
-use std::collections::BTreeSet;
 use std::fmt;
 
 use beltcairn::{Verdict, Written};
 use second::Reply;
-
-use crate::bytes::Numbers;
 
 #[derive(Clone, Copy, Debug, PartialEq, Eq, PartialOrd, Ord)]
 pub enum Answer {
@@ -17,18 +14,6 @@ pub enum Answer {
     Refused(u8),
     /// Something else that the input showed.
     Showed(&'static str),
-}
-
-/// Sleepers that share a tick, by their numbers in the order in which they become ready.
-pub const LOWER_FIRST: Answer = Answer::Showed("woken by one tick, the lower number first");
-pub const HIGHER_FIRST: Answer = Answer::Showed("woken by one tick, the higher number first");
-
-/// What Readys side by side show. They are of one Tick: any other call makes at most one thread ready.
-pub fn woken_together(records: &[Numbers]) -> BTreeSet<Answer> {
-    let readys = records.windows(2).filter(|pair| pair.iter().all(|(kind, _)| *kind == 16));
-    readys
-        .map(|pair| if pair[0].1 < pair[1].1 { LOWER_FIRST } else { HIGHER_FIRST })
-        .collect()
 }
 
 /// The answers of the breaches of these rules, both ends included.

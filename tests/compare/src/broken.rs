@@ -5,7 +5,8 @@ use second::{Fault, Parts, LAST_EXPIRY, LAST_SLEEPER, LAST_TICK, NOBODY, TIMERS}
 use crate::answer::Answer;
 use crate::bytes::Numbers;
 use crate::difference::Compared;
-use crate::lent::{formed_parts, formed_under, reached_parts, some_record, some_report};
+use crate::dues::{self, due_with, some_report, some_switch, within_claims};
+use crate::lent::{formed_parts, formed_under, reached_parts, some_record};
 use crate::random::Random;
 use crate::runs::plan_of;
 use crate::sides::{refused_12, Pair};
@@ -14,7 +15,7 @@ use crate::state;
 /// Breaks the state in one way; says No, with the state as it was, where the state has nothing to break so.
 pub type Break = fn(&mut Parts, &mut Random) -> bool;
 
-pub const WAYS: [(&str, Break); 41] = [
+pub const WAYS: [(&str, Break); 48] = [
     ("plan fails 1: no thread", no_thread),
     ("plan fails 1: too many threads", too_many_threads),
     ("plan fails 1: too many sections", |p, r| {
@@ -53,9 +54,7 @@ pub const WAYS: [(&str, Break); 41] = [
         set(&mut p.tick, LAST_TICK + r.pick(&[1, 2, 65536, 294_967_295]))
     }),
     ("sleeper's tick number too great", sleeper_beyond),
-    ("expiry too great", |p, r| {
-        put(&mut p.timers, r, |r| (LAST_EXPIRY + r.pick(&[1, 2, 65536, 294_901_760]), r.word()))
-    }),
+    ("expiry too great", expiry_beyond),
     ("timer of an arming not below 8, after Arm", |p, r| {
         set(&mut p.arming, (1, out_of_byte(r, TIMERS), 0))
     }),
@@ -79,20 +78,41 @@ pub const WAYS: [(&str, Break); 41] = [
     ("thread in no condition: ready, not in the line", |p, r| remove(&mut p.line, r)),
     ("thread in no condition: waiting, not in the waits", |p, r| remove(&mut p.waits, r)),
     ("thread in two conditions", in_two),
-    ("more than T + 9 due", too_many_due),
+    ("more than T + 9 due, and so in all", dues::too_many_due),
+    ("a Switch due first, another report last", dues::switch_in_front),
+    ("a Switch due between other reports", dues::switch_in_between),
+    ("two Switches due", dues::two_switches),
+    ("one more than T + 9 in all, by a report", dues::claimed_by_a_report),
+    ("one more than T + 9 in all, by a sleeper", dues::claimed_by_a_sleeper),
+    ("one more than T + 9 in all, by a timer armed", dues::claimed_by_a_timer),
+    (
+        "one more than T + 9 in all, by an armed timer no longer owed",
+        dues::claimed_by_a_timer_and_a_report,
+    ),
     ("nothing due, another thread reported than the chosen one", another_reported),
     ("nothing due, nobody reported though a thread is chosen", nobody_reported),
     ("nothing due, a thread reported though nobody is chosen", one_reported),
 ];
 
-/// A state with one break, and one step on it: both answer 12 and change nothing.
-pub fn broken(fault: Fault, break_it: Break, random: &mut Random) -> Compared<Vec<Answer>> {
-    let parts = loop {
+/// A state broken in any of these ways.
+pub fn in_some_way(fault: Fault, random: &mut Random) -> Compared<Vec<Answer>> {
+    let (_, break_it) = random.pick(&WAYS);
+    broken(fault, break_it, random)
+}
+
+/// A state with one break.
+pub fn broken_parts(break_it: Break, random: &mut Random) -> Parts {
+    loop {
         let mut parts = whole_parts(random);
         if break_it(&mut parts, random) {
-            break parts;
+            return parts;
         }
-    };
+    }
+}
+
+/// One step on such a state: both answer 12 and change nothing.
+pub fn broken(fault: Fault, break_it: Break, random: &mut Random) -> Compared<Vec<Answer>> {
+    let parts = broken_parts(break_it, random);
     let record = record_for(&parts, random);
     let reply = Pair::lent(fault, &parts, random).step_refused(record)?;
     Ok(vec![reply.into()])
@@ -117,7 +137,8 @@ fn whole_parts(random: &mut Random) -> Parts {
             formed_parts(random)
         };
         if parts.due.is_empty() && random.one_in(2) {
-            parts.due.push(some_report(parts.threads, random));
+            let (report, switch) = (some_report(parts.threads, random), some_switch(parts.threads, random));
+            parts.due.push(random.pick(&[report, report, switch]));
         }
         if parts.machine(Fault::None).is_some() {
             return parts;
@@ -287,15 +308,10 @@ fn sleeper_beyond(parts: &mut Parts, random: &mut Random) -> bool {
     sleeper.is_some_and(|condition| set(&mut condition.1, until))
 }
 
-fn due_with(parts: &mut Parts, random: &mut Random, report: fn(&mut Random, usize) -> (u8, u16)) -> bool {
-    let report = report(random, parts.threads);
-    if parts.due.is_empty() {
-        parts.due.push(report);
-    } else {
-        let place = random.below(parts.due.len());
-        parts.due[place] = report;
-    }
-    true
+fn expiry_beyond(parts: &mut Parts, random: &mut Random) -> bool {
+    let expiry = LAST_EXPIRY + random.pick(&[1, 2, 65536, 294_901_760]);
+    let (timer, period) = (random.below(TIMERS), random.word());
+    within_claims(parts, |changed| changed.timers[timer] = (expiry, period))
 }
 
 fn remove(list: &mut Vec<u16>, random: &mut Random) -> bool {
@@ -364,15 +380,4 @@ fn one_reported(parts: &mut Parts, random: &mut Random) -> bool {
 fn reported_with_nothing_due(parts: &mut Parts, thread: u16) -> bool {
     parts.due.clear();
     set(&mut parts.given, thread)
-}
-
-/// The library's array holds T + 9 for 16 threads; more than that is among the lengths beyond the room.
-fn too_many_due(parts: &mut Parts, random: &mut Random) -> bool {
-    if parts.threads >= 16 {
-        return false;
-    }
-    let (one_more, any) = (parts.threads + 10, random.between(parts.threads + 10, state::REPORTS));
-    let number = random.pick(&[one_more, any]);
-    parts.due = (0..number).map(|_| some_report(parts.threads, random)).collect();
-    true
 }

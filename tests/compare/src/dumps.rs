@@ -3,10 +3,10 @@
 use beltcairn::Verdict;
 use second::{Fault, MOST_RECORDS, TIMERS};
 
-use crate::answer::{woken_together, Answer};
+use crate::answer::Answer;
 use crate::bytes::{list, Numbers};
 use crate::difference::{differ, Compared};
-use crate::lent::some_count;
+use crate::dues::some_count;
 use crate::random::Random;
 use crate::runs::{period, plan, run, start, Run};
 use crate::sides::{begin, check, steps, watched};
@@ -22,7 +22,7 @@ pub const INSIDE: Answer = Answer::Showed("clean, ending inside an arming");
 /// One dump in this many is also stepped through record by record.
 const STEPPED_ONE_IN: usize = 4;
 
-/// A dump that the rules allow; both must find it clean.
+/// A dump that the rules allow; both must find it clean. What its Ticks show is known where it is stepped through.
 pub fn honest(fault: Fault, random: &mut Random) -> Compared<Vec<Answer>> {
     let Run { plan, records } = run(random);
     let dump = list(&records);
@@ -30,14 +30,13 @@ pub fn honest(fault: Fault, random: &mut Random) -> Compared<Vec<Answer>> {
     if !matches!(verdict, Verdict::Clean { .. }) {
         return differ(watched(&plan, &dump), verdict, "made by the rules, so clean");
     }
-    if random.one_in(STEPPED_ONE_IN) {
-        steps(fault, &plan, &records)?;
-    }
     let mut answers = vec![verdict.into()];
+    if random.one_in(STEPPED_ONE_IN) {
+        answers.extend(steps(fault, &plan, &records)?);
+    }
     answers.extend((records.len() == MOST_RECORDS).then_some(LONGEST));
     answers.extend(records.iter().any(|(kind, _)| *kind == 21).then_some(EXPIRY));
     answers.extend(records.iter().any(|(kind, count)| *kind == 22 && *count > 0).then_some(LATE));
-    answers.extend(woken_together(&records));
     Ok(answers)
 }
 

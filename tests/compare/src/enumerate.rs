@@ -3,12 +3,14 @@
 use beltcairn::Verdict;
 use second::{Fault, Reply};
 
-use crate::answer::{breaches, woken_together, Answer, HIGHER_FIRST, LOWER_FIRST};
+use crate::answer::{breaches, Answer};
 use crate::bytes::{list, plan, Numbers};
 use crate::difference::{differ, Compared, Difference};
 use crate::family::Family;
 use crate::random::Random;
 use crate::sides::{check, watched, Pair};
+use crate::ticks::{AGAIN, AMONG, GONE, OTHER, OWED, TOGETHER};
+use crate::words::records;
 
 /// A small plan, and how far its lists are enumerated: in the short comparison, and in the long one.
 pub struct Small {
@@ -16,25 +18,42 @@ pub struct Small {
     pub plan: Vec<u8>,
     /// Timers from 0 on that its records name; with none there are no records of timers.
     pub timers: u16,
+    /// The records with which all its lists begin; with some of them there are no call lists.
+    pub begins: Vec<Numbers>,
+    /// How many follow.
     pub records: [usize; 2],
     pub calls: [usize; 2],
 }
 
 pub fn plans() -> Vec<Small> {
     vec![
-        small("1 thread, no section", plan(0, &[1], &[0]), [15, 18], [9, 10]),
-        small("1 thread, 1 section", plan(1, &[1], &[1]), [13, 15], [8, 9]),
-        small("1 thread, 2 sections", plan(2, &[1], &[3]), [11, 14], [7, 8]),
-        small("2 equal threads, no section", plan(0, &[1, 1], &[0, 0]), [12, 14], [7, 8]),
-        small("2 equal threads, 1 section", plan(1, &[1, 1], &[1, 1]), [11, 14], [7, 8]),
-        small("2 threads, 1 section", plan(1, &[1, 2], &[1, 1]), [12, 14], [8, 9]),
-        small("2 threads, 2 sections", plan(2, &[1, 2], &[3, 3]), [11, 13], [7, 8]),
-        small("2 threads, 1 of 2 sections shared", plan(2, &[1, 2], &[1, 3]), [11, 13], [7, 8]),
-        small("3 threads, 1 section", plan(1, &[1, 2, 3], &[1, 1, 1]), [10, 13], [7, 8]),
-        small("3 threads, 2 equal, 1 section", plan(1, &[1, 2, 2], &[1, 1, 1]), [10, 13], [7, 8]),
-        small("1 thread, 1 timer", plan(0, &[1], &[0]), [12, 14], [8, 9]).with_timers(1),
-        small("1 thread, 2 timers", plan(0, &[1], &[0]), [11, 13], [8, 9]).with_timers(2),
-        small("2 threads, 1 section, 1 timer", plan(1, &[1, 2], &[1, 1]), [10, 12], [6, 7]).with_timers(1),
+        small("1 thread, no section", plan(0, &[1], &[0]), [12, 15], [9, 10]),
+        small("1 thread, 1 section", plan(1, &[1], &[1]), [11, 14], [8, 9]),
+        small("1 thread, 2 sections", plan(2, &[1], &[3]), [10, 13], [7, 8]),
+        small("2 equal threads, no section", plan(0, &[1, 1], &[0, 0]), [11, 13], [7, 8]),
+        small("2 equal threads, 1 section", plan(1, &[1, 1], &[1, 1]), [10, 12], [7, 8]),
+        small("2 threads, 1 section", plan(1, &[1, 2], &[1, 1]), [10, 12], [8, 9]),
+        small("2 threads, 2 sections", plan(2, &[1, 2], &[3, 3]), [9, 12], [7, 8]),
+        small("2 threads, 1 of 2 sections shared", plan(2, &[1, 2], &[1, 3]), [10, 12], [7, 8]),
+        small("3 threads, 1 section", plan(1, &[1, 2, 3], &[1, 1, 1]), [9, 11], [7, 8]),
+        small("3 threads, 2 equal, 1 section", plan(1, &[1, 2, 2], &[1, 1, 1]), [9, 11], [7, 8]),
+        small("1 thread, 1 timer", plan(0, &[1], &[0]), [11, 13], [8, 9]).with_timers(1),
+        small("1 thread, 2 timers", plan(0, &[1], &[0]), [10, 12], [8, 9]).with_timers(2),
+        small("2 threads, 1 section, 1 timer", plan(1, &[1, 2], &[1, 1]), [9, 11], [6, 7]).with_timers(1),
+    ]
+}
+
+/// Plans whose lists begin where a few Ticks among reports meet with much.
+pub fn beginnings() -> Vec<Small> {
+    let unshared = plan(0, &[1], &[0]);
+    vec![
+        small("2 threads, behind a wait", plan(2, &[1, 2], &[3, 3]), [9, 11], [0, 0])
+            .behind("Create 0; Ready 0; Switch 0; Take 0; Won 0; Take 1; Won 0; Create 1; Ready 1; Switch 1; Take 0; Lost 1; Switch 0"),
+        small("2 threads, between a Take and its Won", plan(1, &[1, 2], &[1, 1]), [9, 11], [0, 0])
+            .behind("Create 0; Ready 0; Switch 0; Create 1; Ready 1; Switch 1; Delay 1; Switch 0; Tick; Take 0"),
+        small("1 thread, behind two armings", unshared, [7, 9], [0, 0])
+            .with_timers(2)
+            .behind("Create 0; Ready 0; Switch 0; Arm 0; Start 1; Period 1; Late 0; Arm 1; Start 2; Period 2; Late 0"),
     ]
 }
 
@@ -43,6 +62,7 @@ fn small(name: &'static str, plan: Vec<u8>, records: [usize; 2], calls: [usize; 
         name,
         plan,
         timers: 0,
+        begins: Vec::new(),
         records,
         calls,
     }
@@ -51,6 +71,11 @@ fn small(name: &'static str, plan: Vec<u8>, records: [usize; 2], calls: [usize; 
 impl Small {
     fn with_timers(self, timers: u16) -> Small {
         Small { timers, ..self }
+    }
+
+    fn behind(self, text: &str) -> Small {
+        let begins = records(text);
+        Small { begins, ..self }
     }
 
     /// Every allowed record under the plan: of Delays 1 and 2 only, of starts 1 and 2, of periods 0 to 2, of Lates 0 to 2 and one that is 0 in
@@ -72,18 +97,34 @@ impl Small {
         records
     }
 
-    /// The rules that its lists reach, and with two equal threads sleepers of one tick in either order.
+    /// The rules that its lists reach, and what their Ticks show.
     pub fn reaches(&self) -> Vec<Answer> {
-        let of_timers = if self.timers > 0 { breaches(31, 32) } else { Vec::new() };
+        let of_all = [breaches(21, 21), breaches(28, 30), vec![AMONG, AGAIN]].concat();
+        let of_timers = match self.timers {
+            0 => Vec::new(),
+            _ => [breaches(31, 32), vec![OWED]].concat(),
+        };
+        let mut reached = [of_all, of_timers].concat();
+        if self.begins.is_empty() {
+            reached.extend(self.reaches_from_the_start());
+        }
+        reached
+    }
+
+    /// That nobody runs, and a thread that wakes before the Switch behind its Delay; with two threads also one that wakes before that of the
+    /// other; with two equal ones sleepers of one tick in either order.
+    fn reaches_from_the_start(&self) -> Vec<Answer> {
+        let of_two = if self.plan[0] > 1 { vec![OTHER] } else { Vec::new() };
         let together = match self.plan[..] {
-            [2, _, one, other, ..] if one == other => vec![LOWER_FIRST, HIGHER_FIRST],
+            [2, _, one, other, ..] if one == other => TOGETHER.to_vec(),
             _ => Vec::new(),
         };
-        [breaches(21, 22), breaches(28, 30), of_timers, together].concat()
+        [vec![Answer::Breach(22), GONE], of_two, together].concat()
     }
 }
 
-/// How many lists there are up to that length; those that are not tried begin with one that was tried and has a breach.
+/// How many lists there are with up to so many records behind the beginning; those that are not tried begin with one that was tried and has
+/// a breach.
 pub fn covered(small: &Small, length: usize) -> f64 {
     let records = small.alphabet().len() as f64;
     (0..=length as i32).map(|power| records.powi(power)).sum()
@@ -94,6 +135,7 @@ pub fn covered(small: &Small, length: usize) -> f64 {
 pub struct Walk<'a> {
     fault: Fault,
     plan: &'a [u8],
+    begins: &'a [Numbers],
     alphabet: Vec<Numbers>,
     family: Family,
     random: Random,
@@ -108,6 +150,7 @@ impl<'a> Walk<'a> {
         Walk {
             fault,
             plan: &small.plan,
+            begins: &small.begins,
             alphabet: small.alphabet(),
             family: Family::new(name),
             random: Random::new(0),
@@ -116,7 +159,7 @@ impl<'a> Walk<'a> {
         }
     }
 
-    /// All lists up to that length, every difference counted.
+    /// All lists with up to so many records behind the beginning, every difference counted.
     pub fn all(small: &'a Small, name: &str, length: usize) -> Family {
         let mut walk = Walk::new(Fault::None, small, name, u64::MAX, false);
         if let Err(difference) = walk.go(length) {
@@ -142,21 +185,25 @@ impl<'a> Walk<'a> {
     }
 
     fn go(&mut self, length: usize) -> Compared<()> {
-        let pair = Pair::begin(self.fault, self.plan)?.expect("the plans here pass");
-        let verdict = check(self.fault, self.plan, &list(&[]))?;
-        if verdict != (Verdict::Clean { records: 0, due: 0 }) {
-            return differ(watched(self.plan, &list(&[])), verdict, "clean");
+        let mut pair = Pair::begin(self.fault, self.plan)?.expect("the plans here pass");
+        for number in 1..=self.begins.len() {
+            pair.step_last(self.plan, &self.begins[..number])?;
+        }
+        let dump = list(self.begins);
+        let verdict = check(self.fault, self.plan, &dump)?;
+        if !matches!(verdict, Verdict::Clean { .. }) {
+            return differ(watched(self.plan, &dump), verdict, "clean");
         }
         self.count(Ok(vec![verdict.into()]))?;
-        self.below(&pair, &mut Vec::new(), length)
+        self.below(&pair, &mut self.begins.to_vec(), length)
     }
 
     fn spent(&self) -> bool {
         self.budget == 0
     }
 
-    fn below(&mut self, pair: &Pair, records: &mut Vec<Numbers>, length: usize) -> Compared<()> {
-        if records.len() == length {
+    fn below(&mut self, pair: &Pair, records: &mut Vec<Numbers>, left: usize) -> Compared<()> {
+        if left == 0 {
             return Ok(());
         }
         for i in 0..self.alphabet.len() {
@@ -168,9 +215,9 @@ impl<'a> Walk<'a> {
             let mut next = pair.clone();
             let reply = self.one(&mut next, records);
             let goes_on = matches!(reply, Ok(Reply::Clean { .. }));
-            self.count(reply.map(|reply| answers(reply, record, &next.parts().due)))?;
+            self.count(reply.map(|reply| std::iter::once(reply.into()).chain(next.shown()).collect()))?;
             if goes_on {
-                self.below(&next, records, length)?;
+                self.below(&next, records, left - 1)?;
             }
             records.pop();
         }
@@ -223,13 +270,4 @@ impl<'a> Walk<'a> {
             }
         }
     }
-}
-
-/// The reply, and after a clean Tick in which order sleepers have become ready.
-fn answers(reply: Reply, (kind, _): Numbers, due: &[Numbers]) -> Vec<Answer> {
-    let mut answers = vec![reply.into()];
-    if kind == 7 && matches!(reply, Reply::Clean { .. }) {
-        answers.extend(woken_together(due));
-    }
-    answers
 }

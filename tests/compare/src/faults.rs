@@ -3,14 +3,14 @@
 use second::Fault;
 
 use crate::difference::Difference;
-use crate::enumerate::{plans, Walk};
+use crate::enumerate::{beginnings, plans, Walk};
 use crate::family::Trial;
 use crate::random::Random;
 use crate::shrink::shrunk;
-use crate::{dumps, known, lent, lists};
+use crate::{broken, dumps, known, lent, lists};
 
 /// The random families that a mistake is put to, and how many inputs of each.
-const TRIALS: [(&str, Trial, u64); 8] = [
+const TRIALS: [(&str, Trial, u64); 9] = [
     ("honest", dumps::honest, 1200),
     ("cut short", dumps::cut, 300),
     ("damaged in a record", dumps::damaged_record, 600),
@@ -19,10 +19,11 @@ const TRIALS: [(&str, Trial, u64); 8] = [
     ("bench output", lists::output, 200),
     ("lent, reached", lent::reached, 600),
     ("lent, well-formed", lent::well_formed, 4000),
+    ("lent, broken", broken::in_some_way, 1000),
 ];
 
 /// Lists that the enumeration may try for each mistake and plan.
-const ENUMERATED: u64 = 8000;
+const ENUMERATED: u64 = 6000;
 
 /// What a mistake was found by, and the smallest input that shows it.
 #[derive(Default)]
@@ -98,7 +99,7 @@ fn try_known(fault: Fault, found: &mut Found) {
 /// Ever longer lists over each small plan, so that the first difference is a shortest one.
 fn try_lists(fault: Fault, found: &mut Found) {
     let mut lengths = Vec::new();
-    for small in plans() {
+    for small in plans().into_iter().chain(beginnings()) {
         if let Some((length, difference)) = Walk::first(fault, &small, ENUMERATED) {
             lengths.push(length.to_string());
             found.keep(difference);

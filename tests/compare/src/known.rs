@@ -1,12 +1,14 @@
-//! The known runs of document 01, with the verdicts that it prints, and the one that joins them with document 02, item 3.
+//! The known runs of document 01, with the verdicts that it prints or that document 02, item 4, changes, and the one that joins them with
+//! item 3.
 
 use beltcairn::{Verdict, Written};
 use second::Fault;
 
 use crate::answer::Answer;
-use crate::bytes::{calls, hexadecimal, list, plan, Numbers};
+use crate::bytes::{calls, hexadecimal, list, plan};
 use crate::difference::{differ, Compared, Input};
 use crate::sides::{bench, check, steps, watched};
+use crate::words::records;
 
 pub struct Known {
     pub name: &'static str,
@@ -51,7 +53,7 @@ pub const RUNS: [Known; 15] = [
     alone(
         "P6",
         "Create 0; Ready 0; Switch 0; Delay 1; Switch nobody; Tick; Tick; Tick",
-        breach(7, 21),
+        clean(8, 2),
     ),
     alone("P7", "Create 0; Ready 0; Switch 0; Relinquish", clean(4, 0)),
     Known {
@@ -140,46 +142,8 @@ const fn breach(record: u64, rule: u8) -> Verdict {
     Verdict::Breach { record, rule }
 }
 
-/// Records in words, as in the stored cases.
-fn records(text: &str) -> Vec<Numbers> {
-    text.split(';')
-        .filter(|words| !words.trim().is_empty())
-        .flat_map(repeated)
-        .collect()
-}
-
-fn repeated(text: &str) -> Vec<Numbers> {
-    match text.trim().strip_prefix("repeat ").and_then(|rest| rest.split_once(' ')) {
-        Some((times, text)) => vec![record(text); times.parse().expect("a number")],
-        None => vec![record(text)],
-    }
-}
-
-fn record(text: &str) -> Numbers {
-    let mut words = text.split_whitespace();
-    let kind = match words.next().unwrap_or_default() {
-        "Create" => 1,
-        "Delay" => 2,
-        "Relinquish" => 3,
-        "End" => 4,
-        "Take" => 5,
-        "Give" => 6,
-        "Tick" => 7,
-        "Ready" => 16,
-        "Switch" => 17,
-        "Won" => 18,
-        "Lost" => 19,
-        "Yield" => 20,
-        other => panic!("no kind is called {other}"),
-    };
-    let operand = words.next().map_or(0, |word| match word {
-        "nobody" => 65535,
-        number => number.parse().expect("a number"),
-    });
-    (kind, operand)
-}
-
-/// Both say what the documents say, step by step as well; and from the calls of a clean one with nothing due, both benches write it.
+/// Both say what the documents say, step by step as well; and from the calls of a clean one with nothing due, both benches write it: none
+/// of these has a Tick between a call and its reports.
 pub fn agrees(fault: Fault, known: &Known) -> Compared<Vec<Answer>> {
     let (plan, records) = (plan(known.sections, known.bases, known.needs), records(known.records));
     let dump = list(&records);

@@ -2,9 +2,10 @@
 
 use second::{Fault, Parts, Plan, Reply, Watch, LAST_EXPIRY, LAST_SLEEPER, LAST_TICK, NOBODY, TIMERS};
 
-use crate::answer::{woken_together, Answer};
+use crate::answer::Answer;
 use crate::bytes::Numbers;
 use crate::difference::Compared;
+use crate::dues::{make_due, some_report, some_switch, some_thread_or_nobody};
 use crate::random::Random;
 use crate::runs::{period, plan, run, some_timer, start, Run};
 use crate::sides::Pair;
@@ -33,7 +34,11 @@ pub fn well_formed(fault: Fault, random: &mut Random) -> Compared<Vec<Answer>> {
 /// A Switch that is due counts as reported.
 fn is_apart(parts: &Parts) -> bool {
     let chosen = parts.chosen().expect("the state was made to pass");
-    !parts.due.is_empty() && parts.given != chosen && !parts.due.contains(&(17, chosen))
+    let reported = match parts.due.last() {
+        Some((17, thread)) => *thread,
+        _ => parts.given,
+    };
+    !parts.due.is_empty() && reported != chosen
 }
 
 /// So many of the steps, from the first on, are let pass by 12.
@@ -47,20 +52,11 @@ fn some_steps(fault: Fault, parts: &Parts, let_pass: usize, random: &mut Random)
             false => pair.step(record)?,
         };
         answers.push(reply.into());
-        if let Reply::Clean { .. } = reply {
-            answers.extend(shown(record, &pair.parts().due));
-        }
+        answers.extend(pair.shown());
+        let cut = matches!(reply, Reply::Clean { .. }) && pair.parts().due.first() == Some(&(22, 65535));
+        answers.extend((record.0 == 10 && cut).then_some(CUT));
     }
     Ok(answers)
-}
-
-/// What the reports due behind a clean call show.
-fn shown((kind, _): Numbers, due: &[Numbers]) -> Vec<Answer> {
-    match kind {
-        7 => woken_together(due).into_iter().collect(),
-        10 if due.first() == Some(&(22, 65535)) => vec![CUT],
-        _ => Vec::new(),
-    }
 }
 
 /// The state after the first records of an honest run.
@@ -75,7 +71,8 @@ pub fn reached_parts(random: &mut Random) -> Parts {
 }
 
 /// A state that question 12 lets pass: any conditions, with line, waits and Delays in any order, any holds, any timers, an arming at any
-/// stage, any reports due. With none due the chosen thread is the last reported one, with some due anyone is.
+/// stage, any reports due as far as there is room for them. With none due the chosen thread is the last reported one, with some due anyone
+/// is.
 pub fn formed_parts(random: &mut Random) -> Parts {
     let plan = plan(random);
     formed_under(&plan, random)
@@ -101,13 +98,26 @@ pub fn formed_under(plan: &[u8], random: &mut Random) -> Parts {
         timers: std::array::from_fn(|_| timer(tick, random)),
         arming: some_arming(tick, random),
         given: some_thread_or_nobody(threads, random),
-        due: some_due(threads, random),
+        due: Vec::new(),
         stored,
     };
+    if random.one_in(4) {
+        all_at_the_next_tick(&mut parts);
+    }
+    if random.one_in(2) {
+        make_due(&mut parts, random);
+    }
     if parts.due.is_empty() {
         parts.given = parts.chosen().expect("whoever was reported, the state is well-formed");
     }
     parts
+}
+
+/// Every sleeper wakes and every armed timer expires.
+fn all_at_the_next_tick(parts: &mut Parts) {
+    let next = parts.tick + 1;
+    parts.conditions.iter_mut().filter(|c| c.0 == 2).for_each(|c| c.1 = next);
+    parts.timers.iter_mut().filter(|t| t.0 != 0).for_each(|t| t.0 = next);
 }
 
 fn some_tick(random: &mut Random) -> u64 {
@@ -193,35 +203,8 @@ fn some_holds(threads: usize, sections: usize, random: &mut Random) -> Vec<(u16,
     held.into_iter().map(|section| (section, random.below(threads) as u16)).collect()
 }
 
-fn some_thread_or_nobody(threads: usize, random: &mut Random) -> u16 {
-    if random.one_in(4) {
-        NOBODY
-    } else {
-        random.below(threads) as u16
-    }
-}
-
-fn some_due(threads: usize, random: &mut Random) -> Vec<(u8, u16)> {
-    let number = if random.one_in(3) { random.between(1, threads + 9) } else { 0 };
-    (0..number).map(|_| some_report(threads, random)).collect()
-}
-
-pub fn some_report(threads: usize, random: &mut Random) -> (u8, u16) {
-    match random.between(16, 22) as u8 {
-        17 => (17, some_thread_or_nobody(threads, random)),
-        21 => (21, random.below(TIMERS) as u16),
-        22 => (22, some_count(random)),
-        kind => (kind, random.below(threads) as u16),
-    }
-}
-
-pub fn some_count(random: &mut Random) -> u16 {
-    let any = random.word();
-    random.pick(&[0, 0, 1, 2, 256, 65535, any])
-}
-
-/// A record for a step: often the report that is due or the next call of an arming, or a call with a fitting operand; now and then any
-/// numbers at all.
+/// A record for a step: often the report that is due or the next call of an arming, a Tick, or a call with a fitting operand; now and then
+/// any numbers at all.
 pub fn some_record(parts: &Parts, random: &mut Random) -> Numbers {
     let threads = parts.threads.clamp(1, 16);
     match (random.below(12), parts.arming.0, parts.due.first()) {
@@ -230,10 +213,12 @@ pub fn some_record(parts: &Parts, random: &mut Random) -> Numbers {
             random.between(0, 23) as u8,
             random.pick(&[0, 1, 8, threads as u16, parts.sections as u16, 256, NOBODY]),
         ),
-        (2..=3, ..) => some_report(threads, random),
+        (2, ..) => some_report(threads, random),
+        (3, ..) => some_switch(threads, random),
         (4..=6, 1, _) => (9, start(parts.tick, random)),
         (4..=6, 2, _) => (10, period(random)),
-        (4..=8, _, Some(report)) => *report,
+        (4..=6, _, Some(report)) => *report,
+        (7..=8, _, Some(_)) => (7, 0),
         (9, _, Some((kind, operand))) => (*kind, otherwise(*operand, threads, random)),
         _ => some_call(parts, threads, random),
     }

@@ -3,17 +3,19 @@
 use std::process::ExitCode;
 use std::time::Instant;
 
-use compare::answer::{breaches, refusals, Answer, HIGHER_FIRST, LOWER_FIRST};
+use compare::answer::{breaches, refusals, Answer};
 use compare::calls::Calls;
-use compare::enumerate::{covered, plans, Walk};
+use compare::enumerate::{beginnings, covered, plans, Walk};
 use compare::family::{Family, Trial};
+use compare::promise::CleanLists;
 use compare::random::Random;
+use compare::ticks::{AGAIN, AMONG, FULL, GONE, OTHER, OWED, TOGETHER, WOKEN};
 use compare::{broken, dumps, faults, known, lent, lists, promise, state};
 use second::Fault;
 
 const SEED: u64 = 1;
 const CLEAN: [Answer; 2] = [Answer::Clean, Answer::CleanWithDue];
-const TOGETHER: [Answer; 2] = [LOWER_FIRST, HIGHER_FIRST];
+const INTERRUPTS: [Answer; 6] = [AMONG, AGAIN, OTHER, GONE, WOKEN, OWED];
 
 /// How many inputs the families of a comparison have.
 struct Scale {
@@ -113,7 +115,7 @@ fn compare(scale: &Scale, seed: u64) -> (u64, u64) {
     random_dumps(&mut tally, scale.dumps);
     bench_lists(&mut tally, scale.lists);
     lent_states(&mut tally, scale);
-    tally.random("demand 3 on clean dumps", promise::kept, scale.promise, &promise::WANTED);
+    demand_3(&mut tally, scale);
     (tally.passed, tally.failed)
 }
 
@@ -125,9 +127,10 @@ fn known_runs(tally: &mut Tally) {
 
 fn every_list(tally: &mut Tally, long: bool) {
     let (started, mut lists) = (Instant::now(), 0);
-    for small in plans() {
+    for small in plans().into_iter().chain(beginnings()) {
         let length = small.records[usize::from(long)];
-        let name = format!("every list, {}, up to {length} records", small.name);
+        let more = if small.begins.is_empty() { "records" } else { "more records" };
+        let name = format!("every list, {}, up to {length} {more}", small.name);
         let family = Walk::all(&small, &name, length);
         tally.take(&family, &[CLEAN.to_vec(), small.reaches()].concat());
         println!("    with what their breaches decide, {:.3e} lists", covered(&small, length));
@@ -149,8 +152,8 @@ fn every_call_list(tally: &mut Tally, long: bool) {
 }
 
 fn random_dumps(tally: &mut Tally, inputs: u64) {
-    let shown = [Answer::Clean, dumps::LONGEST, dumps::EXPIRY, dumps::LATE];
-    tally.random("honest", dumps::honest, inputs, &[&shown[..], &TOGETHER].concat());
+    let shown = [Answer::Clean, dumps::LONGEST, dumps::EXPIRY, dumps::LATE, FULL];
+    tally.random("honest", dumps::honest, inputs, &[&shown[..], &TOGETHER, &INTERRUPTS].concat());
     let cut = [CLEAN.to_vec(), vec![dumps::INSIDE], refusals(&[5, 6])].concat();
     tally.random("cut short", dumps::cut, inputs, &cut);
     tally.random(
@@ -184,13 +187,13 @@ fn bench_lists(tally: &mut Tally, inputs: u64) {
 }
 
 fn lent_states(tally: &mut Tally, scale: &Scale) {
-    let wanted = [CLEAN.to_vec(), breaches(21, 32), refusals(&[7, 8])].concat();
+    let wanted = [CLEAN.to_vec(), breaches(21, 32), refusals(&[7, 8]), INTERRUPTS.to_vec()].concat();
     tally.random("lent, reached", lent::reached, scale.lent / 4, &wanted);
     tally.random(
         "lent, well-formed",
         lent::well_formed,
         scale.lent,
-        &[wanted, refusals(&[12, 13]), vec![lent::CUT, lent::APART], TOGETHER.to_vec()].concat(),
+        &[wanted, refusals(&[12, 13]), vec![lent::CUT, lent::APART, FULL], TOGETHER.to_vec()].concat(),
     );
     for (name, break_it) in broken::WAYS {
         let mut family = Family::new(&format!("lent, broken: {name}"));
@@ -204,4 +207,13 @@ fn lent_states(tally: &mut Tally, scale: &Scale) {
         (0..scale.broken).for_each(|_| family.count(broken::beyond_the_room(break_it, &mut random)));
         tally.take(&family, &refusals(&[12]));
     }
+}
+
+fn demand_3(tally: &mut Tally, scale: &Scale) {
+    tally.random("demand 3 on clean dumps", promise::kept, scale.promise, &promise::WANTED);
+    let mut family = Family::new("demand 3 on every clean list");
+    for small in beginnings().iter().filter(|small| small.timers == 0) {
+        CleanLists::all(small, small.records[usize::from(scale.long)], &mut family);
+    }
+    tally.take(&family, &promise::wanted_of_lists());
 }

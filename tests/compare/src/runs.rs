@@ -3,6 +3,7 @@
 use second::{broken_rule, Arming, Call, Fault, Machine, Plan, Record, MOST_RECORDS, TIMERS};
 
 use crate::bytes::{self, Numbers};
+use crate::crowd::crowd;
 use crate::random::Random;
 
 /// A plan's bytes and the records of a clean dump.
@@ -47,18 +48,33 @@ fn needs(random: &mut Random, sections: usize, density: usize) -> u16 {
 /// The kinds that a mood chooses from. Start and Period are no choice: they follow an Arm.
 const KINDS: [u8; 9] = [1, 2, 3, 4, 5, 6, 7, 8, 11];
 
-/// How often each of those kinds is tried.
-pub struct Mood([usize; KINDS.len()]);
+/// How many Ticks come at most between a call and the last of its reports: one of these, drawn for each call.
+const NEVER: &[usize] = &[0];
+const SELDOM: &[usize] = &[0, 0, 0, 1];
+const OFTEN: &[usize] = &[0, 1, 2, 5];
+
+/// How often each of those kinds is tried, and the Ticks among reports.
+pub struct Mood {
+    weights: [usize; KINDS.len()],
+    among: &'static [usize],
+}
 
 impl Mood {
+    fn of(weights: [usize; KINDS.len()], random: &mut Random) -> Mood {
+        let among = random.pick(&[NEVER, NEVER, SELDOM, OFTEN]);
+        Mood { weights, among }
+    }
+
     /// Many threads that take sections and seldom end, so that they meet.
     pub fn busy(random: &mut Random) -> Mood {
-        Mood([6, 1, 2, random.below(2), 8, 3, 2, random.below(3), random.below(2)])
+        let weights = [6, 1, 2, random.below(2), 8, 3, 2, random.below(3), random.below(2)];
+        Mood::of(weights, random)
     }
 
     /// Ticks and timers before all else.
     fn clockwork(random: &mut Random) -> Mood {
-        Mood([3, 2, 1, random.below(2), 1, 1, 8, 4, 1])
+        let weights = [3, 2, 1, random.below(2), 1, 1, 8, 4, 1];
+        Mood::of(weights, random)
     }
 
     /// Busy with sections in half of the runs, with timers in some, and with anything in the others.
@@ -75,12 +91,12 @@ impl Mood {
         // Without these nothing begins, or nothing is ever admitted.
         weights[0] += 2;
         weights[6] += 1;
-        Mood(weights)
+        Mood::of(weights, random)
     }
 
     fn kind(&self, random: &mut Random) -> u8 {
-        let mut left = random.below(self.0.iter().sum());
-        for (kind, weight) in KINDS.into_iter().zip(self.0) {
+        let mut left = random.below(self.weights.iter().sum());
+        for (kind, weight) in KINDS.into_iter().zip(self.weights) {
             if left < weight {
                 return kind;
             }
@@ -90,7 +106,74 @@ impl Mood {
     }
 }
 
-/// A run of some length: mostly short, some of hundreds of records, and now and then as long as a dump may be.
+/// All the reports due, however many.
+pub const ALL: usize = usize::MAX;
+
+/// A machine that keeps the rules, and the records that moved it.
+pub struct Recorder {
+    plan: Vec<u8>,
+    pub machine: Machine,
+    pub records: Vec<Numbers>,
+}
+
+impl Recorder {
+    pub fn new(plan: Vec<u8>) -> Recorder {
+        let known = Plan::read(&plan, Fault::None).expect("the plan was made to pass");
+        Recorder {
+            plan,
+            machine: Machine::new(known, Fault::None),
+            records: Vec::new(),
+        }
+    }
+
+    pub fn call(&mut self, call: Call) {
+        self.advance(Record::Call(call));
+    }
+
+    /// Gives so many of the reports due, or all there are.
+    pub fn give(&mut self, most: usize) {
+        for _ in 0..most {
+            let Some(report) = self.machine.due.front().copied() else {
+                return;
+            };
+            self.advance(Record::Report(report));
+        }
+    }
+
+    /// Gives all of them, with up to so many Ticks before and among them.
+    pub fn give_among_ticks(&mut self, mut ticks: usize, random: &mut Random) {
+        while !self.machine.due.is_empty() {
+            if ticks > 0 && random.one_in(3) {
+                ticks -= 1;
+                self.call(Call::Tick);
+            } else {
+                self.give(1);
+            }
+        }
+    }
+
+    fn advance(&mut self, record: Record) {
+        self.machine.advance(record);
+        self.records.push(record.numbers());
+    }
+
+    /// Goes on in that mood, and ends with the reports of the call that brings it to that length, and not inside an arming; a dump of the
+    /// greatest length ends there.
+    fn go_on(mut self, mood: &Mood, length: usize, random: &mut Random) -> Run {
+        while self.records.len() < length || self.machine.timers.arming != Arming::Idle {
+            let room = MOST_RECORDS.saturating_sub(self.records.len());
+            let call = admitted_call(&self.machine, mood, room, random);
+            self.call(call);
+            self.give_among_ticks(random.pick(mood.among), random);
+        }
+        self.records.truncate(MOST_RECORDS);
+        let Recorder { plan, records, .. } = self;
+        Run { plan, records }
+    }
+}
+
+/// A run of some length: mostly short, some of hundreds of records, and now and then as long as a dump may be. In some all that can be due
+/// is due at once.
 pub fn run(random: &mut Random) -> Run {
     let length = match random.below(4000) {
         0 => MOST_RECORDS,
@@ -99,30 +182,16 @@ pub fn run(random: &mut Random) -> Run {
         _ => random.below(50),
     };
     let (plan, mood) = (plan(random), Mood::any(random));
-    sized_run(random, plan, &mood, length)
-}
-
-/// A run that ends with the reports of the call that brings it to that length, and not inside an arming; a dump of the greatest length
-/// ends there.
-pub fn sized_run(random: &mut Random, plan: Vec<u8>, mood: &Mood, length: usize) -> Run {
-    let known = Plan::read(&plan, Fault::None).expect("the plan was made to pass");
-    let mut machine = Machine::new(known, Fault::None);
-    let mut records = Vec::new();
-    while records.len() < length || machine.timers.arming != Arming::Idle {
-        let room = MOST_RECORDS.saturating_sub(records.len());
-        let call = admitted_call(&machine, mood, room, random);
-        advance(&mut machine, Record::Call(call), &mut records);
-        while let Some(report) = machine.due.front().copied() {
-            advance(&mut machine, Record::Report(report), &mut records);
-        }
+    let mut recorder = Recorder::new(plan);
+    if random.one_in(64) {
+        crowd(&mut recorder, random);
     }
-    records.truncate(MOST_RECORDS);
-    Run { plan, records }
+    recorder.go_on(&mood, length, random)
 }
 
-fn advance(machine: &mut Machine, record: Record, records: &mut Vec<Numbers>) {
-    machine.advance(record);
-    records.push(record.numbers());
+/// A run under that plan, in that mood and of about that length.
+pub fn sized_run(random: &mut Random, plan: Vec<u8>, mood: &Mood, length: usize) -> Run {
+    Recorder::new(plan).go_on(mood, length, random)
 }
 
 fn admitted_call(machine: &Machine, mood: &Mood, room: usize, random: &mut Random) -> Call {

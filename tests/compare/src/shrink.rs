@@ -1,9 +1,10 @@
 //! A difference made smaller: calls, threads and sections left out one at a time while the sides still differ.
 
-use second::Fault;
+use second::{broken_rule, Call, Fault, Plan, Record};
 
-use crate::bytes::{self, calls, list, records_of, Numbers};
+use crate::bytes::{self, list, records_of, Numbers};
 use crate::difference::{Difference, Input};
+use crate::runs::{Recorder, ALL};
 use crate::sides;
 
 /// A plan in numbers and the calls under it; the reports are made anew by the right machine.
@@ -12,14 +13,23 @@ struct Story {
     sections: u8,
     bases: Vec<u8>,
     needs: Vec<u16>,
-    calls: Vec<Numbers>,
+    calls: Vec<Made>,
+}
+
+/// A call, and how many of the reports due are given behind it if a Tick is next.
+#[derive(Clone, Copy)]
+struct Made {
+    call: Numbers,
+    reports: usize,
 }
 
 pub fn shrunk(fault: Fault, difference: Box<Difference>) -> Box<Difference> {
-    let (Input::Dump { plan, dump: list } | Input::List { plan, list, .. }) = &difference.input else {
-        return difference;
+    let story = match &difference.input {
+        Input::Dump { plan, dump } => Story::read(plan, dump, false),
+        Input::List { plan, list, .. } => Story::read(plan, list, true),
+        Input::Lent { .. } => None,
     };
-    let Some(mut story) = Story::read(plan, list) else {
+    let Some(mut story) = story else {
         return difference;
     };
     let mut smallest = difference;
@@ -34,10 +44,20 @@ pub fn shrunk(fault: Fault, difference: Box<Difference>) -> Box<Difference> {
 }
 
 impl Story {
-    /// Nothing where the bytes are no plan and list in a true frame.
-    fn read(plan: &[u8], bytes: &[u8]) -> Option<Story> {
-        let plan = second::Plan::read(plan, Fault::None).ok()?;
-        let calls = calls(&records_of(bytes)?);
+    /// Nothing where the bytes are no plan and list in a true frame. Behind the calls of a call list all reports are given.
+    fn read(plan: &[u8], bytes: &[u8], calls_alone: bool) -> Option<Story> {
+        let plan = Plan::read(plan, Fault::None).ok()?;
+        let mut calls: Vec<Made> = Vec::new();
+        for record in records_of(bytes)? {
+            match calls.last_mut() {
+                Some(made) if record.0 >= 16 => made.reports += 1,
+                None if record.0 >= 16 => {}
+                _ => calls.push(Made { call: record, reports: 0 }),
+            }
+        }
+        if calls_alone {
+            calls.iter_mut().for_each(|made| made.reports = ALL);
+        }
         Some(Story {
             sections: plan.sections() as u8,
             bases: plan.bases().to_vec(),
@@ -61,7 +81,7 @@ impl Story {
     }
 
     fn leave_out_calls(&mut self, place: usize) {
-        let kinds: Vec<u8> = self.calls[place..].iter().map(|(kind, _)| *kind).take(3).collect();
+        let kinds: Vec<u8> = self.calls[place..].iter().map(|made| made.call.0).take(3).collect();
         let number = if kinds == [8, 9, 10] { 3 } else { 1 };
         self.calls.drain(place..place + number);
     }
@@ -81,10 +101,10 @@ impl Story {
 
     /// Calls of these kinds lose those of the number, and count the greater ones down.
     fn renumber(&mut self, kinds: &[u8], number: u16) {
-        self.calls.retain(|(kind, operand)| !kinds.contains(kind) || *operand != number);
-        for (kind, operand) in &mut self.calls {
-            if kinds.contains(kind) && *operand > number {
-                *operand -= 1;
+        self.calls.retain(|made| !kinds.contains(&made.call.0) || made.call.1 != number);
+        for Made { call, .. } in &mut self.calls {
+            if kinds.contains(&call.0) && call.1 > number {
+                call.1 -= 1;
             }
         }
     }
@@ -92,15 +112,34 @@ impl Story {
     /// On the dump of the calls by the whole check or step by step, or else by the bench on the calls.
     fn differs(&self, fault: Fault) -> Option<Box<Difference>> {
         let plan = bytes::plan(self.sections, &self.bases, &self.needs);
-        let mut out = vec![0; 2 + 3 * second::MOST_RECORDS];
-        let written = second::bench(&plan, &list(&self.calls), &mut out);
-        if let Ok(records) = written {
-            out.truncate(2 + 3 * records);
-            let stepped = || sides::steps(fault, &plan, &records_of(&out)?).err();
-            if let Some(difference) = sides::check(fault, &plan, &out).err().or_else(stepped) {
+        if let Some(records) = self.records(&plan) {
+            let stepped = || sides::steps(fault, &plan, &records).err();
+            if let Some(difference) = sides::check(fault, &plan, &list(&records)).err().or_else(stepped) {
                 return Some(difference);
             }
         }
-        sides::bench(fault, &plan, &list(&self.calls), 2 + 3 * second::MOST_RECORDS).err()
+        let calls: Vec<Numbers> = self.calls.iter().map(|made| made.call).collect();
+        sides::bench(fault, &plan, &list(&calls), 2 + 3 * second::MOST_RECORDS).err()
+    }
+
+    /// The calls with their reports, all of them behind each call but one before a Tick; nothing where a call is not admitted.
+    fn records(&self, plan: &[u8]) -> Option<Vec<Numbers>> {
+        Plan::read(plan, Fault::None).ok()?;
+        let mut recorder = Recorder::new(plan.to_vec());
+        for Made { call, reports } in &self.calls {
+            let Ok(Record::Call(call)) = Record::from_numbers(call.0, call.1, &recorder.machine.plan) else {
+                return None;
+            };
+            if call != Call::Tick {
+                recorder.give(ALL);
+            }
+            if broken_rule(&recorder.machine, Record::Call(call)).is_some() {
+                return None;
+            }
+            recorder.call(call);
+            recorder.give(*reports);
+        }
+        recorder.give(ALL);
+        Some(recorder.records)
     }
 }

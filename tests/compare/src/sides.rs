@@ -1,12 +1,15 @@
 //! Both sides asked the same, and whether they say the same.
 
+use std::collections::BTreeSet;
+
 use beltcairn::{Verdict, Written};
 use second::{Fault, Parts, Reply};
 
+use crate::answer::Answer;
 use crate::bytes::{hexadecimal, list, Numbers};
 use crate::difference::{differ, Compared, Difference, Input};
 use crate::random::Random;
-use crate::state;
+use crate::{state, ticks};
 
 /// The whole check of both; the verdict that they share.
 pub fn check(fault: Fault, plan: &[u8], dump: &[u8]) -> Compared<Verdict> {
@@ -18,16 +21,18 @@ pub fn check(fault: Fault, plan: &[u8], dump: &[u8]) -> Compared<Verdict> {
     differ(watched(plan, dump), library, second)
 }
 
-/// The live steps of both from the plan's start, their states compared after every step.
-pub fn steps(fault: Fault, plan: &[u8], records: &[Numbers]) -> Compared<()> {
+/// The live steps of both from the plan's start, their states compared after every step; what its Ticks show.
+pub fn steps(fault: Fault, plan: &[u8], records: &[Numbers]) -> Compared<BTreeSet<Answer>> {
+    let mut shown = BTreeSet::new();
     let mut pair = match Pair::begin(fault, plan)? {
         Ok(pair) => pair,
-        Err(_) => return Ok(()),
+        Err(_) => return Ok(shown),
     };
     for number in 1..=records.len() {
         pair.step_last(plan, &records[..number])?;
+        shown.extend(pair.shown());
     }
-    Ok(())
+    Ok(shown)
 }
 
 /// The watch state that the plan begins with, or its refusal.
@@ -47,6 +52,8 @@ pub fn watched(plan: &[u8], dump: &[u8]) -> Input {
 pub struct Pair {
     library: beltcairn::Watch,
     second: second::Watch,
+    /// What the latest step has shown, if it was a clean Tick.
+    shown: BTreeSet<Answer>,
 }
 
 impl Pair {
@@ -54,7 +61,7 @@ impl Pair {
     pub fn begin(fault: Fault, plan: &[u8]) -> Compared<Result<Pair, u8>> {
         match (beltcairn::Watch::begin(plan), second::Watch::new_with(fault, plan)) {
             (Ok(library), Ok(second)) => {
-                let pair = Pair { library, second };
+                let pair = Pair::of(library, second);
                 if state::parts(&library) != *pair.second.parts() {
                     return differ(watched(plan, &[0, 0]), ("begins with", state::parts(&library)), pair.second.parts());
                 }
@@ -67,18 +74,35 @@ impl Pair {
 
     /// A state lent to both.
     pub fn lent(fault: Fault, parts: &Parts, random: &mut Random) -> Pair {
-        Pair {
-            library: state::lend(parts, random),
-            second: second::Watch::from_parts_with(fault, parts.clone()),
-        }
+        let second = second::Watch::from_parts_with(fault, parts.clone());
+        Pair::of(state::lend(parts, random), second)
+    }
+
+    fn of(library: beltcairn::Watch, second: second::Watch) -> Pair {
+        let shown = BTreeSet::new();
+        Pair { library, second, shown }
     }
 
     pub fn parts(&self) -> &Parts {
         self.second.parts()
     }
 
+    pub fn shown(&self) -> impl Iterator<Item = Answer> + '_ {
+        self.shown.iter().copied()
+    }
+
     /// One step of both; the answer that they share.
     pub fn step(&mut self, record: Numbers) -> Compared<Reply> {
+        let before = (record.0 == 7).then(|| self.parts().clone());
+        let reply = self.compared_step(record)?;
+        self.shown = match (before, reply) {
+            (Some(before), Reply::Clean { .. }) => ticks::shown(&before, self.parts()),
+            _ => BTreeSet::new(),
+        };
+        Ok(reply)
+    }
+
+    fn compared_step(&mut self, record: Numbers) -> Compared<Reply> {
         let before = self.library;
         let library = as_reply(self.library.step(record.0, record.1));
         let second = self.second.step(record.0, record.1);

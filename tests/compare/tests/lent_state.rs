@@ -9,9 +9,9 @@ use compare::random::Random;
 use compare::state::{lend, parts, REPORTS};
 use second::Parts;
 
-/// Threads 2 and 0 in the line in this order, 6 and 1 asleep since Delays in this order, 3 dormant, 5 and 4 waiting in this order for sections
-/// 2 and 0. Section 1 is taken by 2, and then 3 by 0. Timer 1 expires at 300 and every 258 ticks, 6 is an alarm at 8. Timer 5 is being armed, from 515 on. Due are a Switch
-/// to nobody, an Expire and a Late.
+/// Threads 2 and 0 in the line in this order, 6 and 1 asleep since Delays in this order, 3 dormant, 5 and 4 waiting in this order for
+/// sections 2 and 0. Section 1 is taken by 2, and then 3 by 0. Timer 1 expires at 300 and every 258 ticks, 6 is an alarm at 8. Timer 5 is
+/// being armed, from 515 on. Due are an Expire, a Late and a Switch to nobody.
 fn seven_threads() -> Parts {
     Parts {
         threads: 7,
@@ -27,7 +27,7 @@ fn seven_threads() -> Parts {
         timers: [(0, 0), (300, 258), (0, 0), (0, 0), (0, 0), (0, 0), (8, 0), (0, 0)],
         arming: (2, 5, 515),
         given: 2,
-        due: vec![(17, 65535), (21, 7), (22, 772)],
+        due: vec![(21, 7), (22, 772), (17, 65535)],
         stored: 0,
     }
 }
@@ -74,7 +74,7 @@ fn timers_and_reports_stand_where_the_header_says() {
         assert_eq!((timers.arming.stage, timers.arming.timer, timers.arming.start), (2, 5, 515));
         let due = &watch.state.due.items[watch.state.given..watch.state.due.count];
         let numbers: Vec<(u8, u16)> = due.iter().map(|report| (report.kind, report.operand)).collect();
-        assert_eq!(numbers, [(17, 65535), (21, 7), (22, 772)]);
+        assert_eq!(numbers, [(21, 7), (22, 772), (17, 65535)]);
     }
 }
 

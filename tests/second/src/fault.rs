@@ -103,11 +103,33 @@ pub enum Fault {
     Rule30LowByte,
     /// Question 32 is not asked.
     Rule32Dropped,
+    /// Question 21 is asked of a Tick too.
+    Rule21OfTick,
+    /// A Switch still due at a Tick stays due where it stands, and what the Tick owes comes behind it.
+    SwitchKeptAtTick,
+    /// A Switch still due at a Tick is due before all else.
+    SwitchMovedToFront,
+    /// The thread of a dropped Switch counts as last reported.
+    ReportedFromDroppedSwitch,
+    /// An expiry adds an Expire though one of the timer is still owed.
+    ExpireOwedTwice,
+    /// A timer that is still owed an Expire does not expire, and keeps its tick number.
+    OwedTimerStands,
+    /// A delay runs from the Switch behind its Delay.
+    DelayFromSwitch,
+    /// In a lent state a Switch due may stand anywhere.
+    SwitchDueAnywhere,
+    /// Of a lent state a Switch due is counted with the other reports due.
+    SwitchAmongClaims,
+    /// Of a lent state every armed timer is counted, owed an Expire or not.
+    OwedTimersAmongClaims,
+    /// Of a lent state the one beside reports due, sleepers and timers is not counted.
+    ClaimsWithoutOne,
 }
 
 impl Fault {
     /// Every mistake, without `None`.
-    pub const ALL: [Fault; 47] = [
+    pub const ALL: [Fault; 58] = [
         Fault::NeedsByteOrder,
         Fault::CountByteOrder,
         Fault::OperandByteOrder,
@@ -155,6 +177,17 @@ impl Fault {
         Fault::Rule22NotOfTimers,
         Fault::Rule30LowByte,
         Fault::Rule32Dropped,
+        Fault::Rule21OfTick,
+        Fault::SwitchKeptAtTick,
+        Fault::SwitchMovedToFront,
+        Fault::ReportedFromDroppedSwitch,
+        Fault::ExpireOwedTwice,
+        Fault::OwedTimerStands,
+        Fault::DelayFromSwitch,
+        Fault::SwitchDueAnywhere,
+        Fault::SwitchAmongClaims,
+        Fault::OwedTimersAmongClaims,
+        Fault::ClaimsWithoutOne,
     ];
 
     /// The name as written above.

@@ -84,10 +84,30 @@ impl Parts {
         Some(thread_number(formed.chosen()))
     }
 
+    /// What a Tick may make due at once: the reports due but a Switch, the sleepers, the armed timers owed no Expire, and one for a Switch.
+    pub fn claims(&self) -> usize {
+        self.claims_with(Fault::None)
+    }
+
+    fn claims_with(&self, fault: Fault) -> usize {
+        let reports = self
+            .due
+            .iter()
+            .filter(|report| !is_switch(report) || fault == Fault::SwitchAmongClaims);
+        let sleepers = self.conditions.iter().filter(|(number, _)| *number == 2);
+        let owed = |timer: u16| self.due.contains(&Report::Expire(timer.into()).numbers());
+        let armed = self.timers.iter().zip(0..).filter(|((expiry, _), timer)| {
+            let counts = !owed(*timer) || fault == Fault::OwedTimersAmongClaims;
+            *expiry != 0 && counts
+        });
+        let one = usize::from(fault != Fault::ClaimsWithoutOne);
+        reports.count() + sleepers.count() + armed.count() + one
+    }
+
     // All of question 12 but its last part, that with nothing due the chosen thread is the last reported one.
     fn formed(&self, fault: Fault) -> Option<Machine> {
         let plan = self.plan()?;
-        if !self.numbers_in_range() || !self.lists_agree() {
+        if !self.numbers_in_range() || !self.lists_agree() || !self.reports_fit(fault) {
             return None;
         }
         let (threads, sections) = (plan.threads(), plan.sections());
@@ -122,7 +142,15 @@ impl Parts {
     // turned into the machine's own; this is what is left.
     fn numbers_in_range(&self) -> bool {
         let rule = self.stored == 0 || (21..=32).contains(&self.stored);
-        rule && self.tick <= LAST_TICK && self.due.len() <= self.threads + 9
+        rule && self.tick <= LAST_TICK
+    }
+
+    /// A Switch due is the last, and neither are there more than T + 9 reports due nor can a Tick make it more.
+    fn reports_fit(&self, fault: Fault) -> bool {
+        let most = self.threads + 9;
+        let mut before_the_last = self.due.iter().rev().skip(1);
+        let switch_last = !before_the_last.any(is_switch) || fault == Fault::SwitchDueAnywhere;
+        switch_last && self.due.len() <= most && self.claims_with(fault) <= most
     }
 
     fn timers(&self) -> Option<Timers> {
@@ -167,6 +195,10 @@ fn condition_numbers(condition: Condition) -> (u8, u64) {
         Condition::Asleep(until) => (2, until),
         Condition::Waiting(section) => (3, section as u64),
     }
+}
+
+fn is_switch(report: &(u8, u16)) -> bool {
+    report.0 == 17
 }
 
 fn timer_numbers(timer: Option<&Timer>) -> (u64, u16) {

@@ -16,6 +16,7 @@ pub mod program;
 mod promise;
 mod records;
 mod rules;
+mod tick;
 mod timers;
 
 pub use bench::{bench, bench_with};

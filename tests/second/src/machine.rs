@@ -1,4 +1,4 @@
-//! The machine: what it remembers and what each call does.
+//! The machine: what it remembers and what each call does, but for the Tick (see `tick`).
 //!
 //! It asks no rules; a call comes here only after they are asked (see `rules`).
 
@@ -174,7 +174,7 @@ impl Machine {
         self.owe_switch();
     }
 
-    fn owe(&mut self, report: Report) {
+    pub(crate) fn owe(&mut self, report: Report) {
         self.due.push_back(report);
     }
 
@@ -185,7 +185,7 @@ impl Machine {
         }
     }
 
-    fn join_line(&mut self, thread: usize, at_front: bool) {
+    pub(crate) fn join_line(&mut self, thread: usize, at_front: bool) {
         self.conditions[thread] = Condition::Ready;
         if at_front {
             self.line.push_front(thread);
@@ -202,37 +202,6 @@ impl Machine {
     fn create(&mut self, thread: usize) {
         self.join_line(thread, false);
         self.owe(Report::Ready(thread));
-    }
-
-    fn clock_tick(&mut self) {
-        self.tick += 1;
-        if self.fault == Fault::ReadyBeforeExpire {
-            self.wake_sleepers();
-            self.expire_timers();
-        } else {
-            self.expire_timers();
-            self.wake_sleepers();
-        }
-    }
-
-    fn expire_timers(&mut self) {
-        for timer in self.timers.expire(self.tick, self.fault) {
-            self.owe(Report::Expire(timer));
-        }
-    }
-
-    fn wake_sleepers(&mut self) {
-        let mut woken = self.sleepers();
-        woken.retain(|thread| self.conditions[*thread] == Condition::Asleep(self.tick));
-        match self.fault {
-            Fault::SleepersByNumber => woken.sort_unstable(),
-            Fault::LatestDelayFirst => woken.reverse(),
-            _ => {}
-        }
-        for thread in woken {
-            self.join_line(thread, self.fault == Fault::WokenAtFront);
-            self.owe(Report::Ready(thread));
-        }
     }
 
     /// A count above 65535 is written 65535.

@@ -22,6 +22,12 @@ pub struct Seen {
     pub gives_between: usize,
     /// Parts 2 and 3: those calls of a lower thread that are timer calls.
     pub timer_calls: usize,
+    /// Ticks while a report was due.
+    pub ticks_among_reports: usize,
+    /// Won and Lost that a Tick parts from the Take or Give to which they belong.
+    pub parted_by_ticks: usize,
+    /// Part 3: those calls of a lower thread where the other one woke while a report was due.
+    pub woken_among_reports: usize,
 }
 
 /// Checks the four parts for a clean list of records, given as kind and operand numbers.
@@ -36,9 +42,9 @@ pub fn promise_with(fault: Fault, plan: &[u8], records: &[(u8, u16)]) -> Result<
     let records: Result<Vec<Record>, u8> = records.iter().map(|(kind, n)| Record::from_numbers(*kind, *n, &plan)).collect();
     let records = records.map_err(|q| format!("records refused {q}"))?;
     let quiet = quiet_after(Machine::new(plan.clone(), fault), &records)?;
-    let story = Story::new(&plan, &records);
-    let mut seen = Seen::default();
-    story.part_1(&quiet, &mut seen)?;
+    let story = Story::new(&plan, &records, &quiet);
+    let mut seen = story.ticks_seen();
+    story.part_1(&mut seen)?;
     story.part_2(&mut seen)?;
     story.parts_3_and_4(&mut seen)?;
     Ok(seen)
@@ -87,17 +93,20 @@ impl Taking {
 struct Story<'a> {
     plan: &'a Plan,
     records: &'a [Record],
+    /// Whether nothing is due after each number of records.
+    quiet: &'a [bool],
     /// Who runs after each number of records.
     runner: Vec<Option<usize>>,
     takings: Vec<Taking>,
 }
 
 impl<'a> Story<'a> {
-    fn new(plan: &'a Plan, records: &'a [Record]) -> Story<'a> {
+    fn new(plan: &'a Plan, records: &'a [Record], quiet: &'a [bool]) -> Story<'a> {
         let runner = runners(records);
         let mut story = Story {
             plan,
             records,
+            quiet,
             runner,
             takings: Vec::new(),
         };
@@ -110,6 +119,10 @@ impl<'a> Story<'a> {
             Record::Call(call) => Some(call),
             Record::Report(_) => None,
         }
+    }
+
+    fn is_tick(&self, i: usize) -> bool {
+        self.call(i) == Some(Call::Tick)
     }
 
     fn is_timer_call(&self, i: usize) -> bool {
@@ -191,10 +204,24 @@ impl<'a> Story<'a> {
         self.plan.base(low) < self.plan.base(high)
     }
 
+    /// What the list has of Ticks between a call and its reports, before any part is asked.
+    fn ticks_seen(&self) -> Seen {
+        let places = 0..self.records.len();
+        let answers = places
+            .clone()
+            .filter(|j| matches!(self.report(*j), Some(Report::Won(_) | Report::Lost(_))));
+        let parted = |j: &usize| self.belongs(*j).is_some_and(|i| (i..*j).any(|k| self.is_tick(k)));
+        Seen {
+            ticks_among_reports: places.filter(|i| self.is_tick(*i) && !self.quiet[*i]).count(),
+            parted_by_ticks: answers.filter(parted).count(),
+            ..Seen::default()
+        }
+    }
+
     /// Where nothing is due: no thread waits and holds, and with a waiting one somebody runs.
     /// After 0 records nobody waits, so the walk begins at 1.
-    fn part_1(&self, quiet: &[bool], seen: &mut Seen) -> Result<(), String> {
-        for k in (1..quiet.len()).filter(|k| quiet[*k]) {
+    fn part_1(&self, seen: &mut Seen) -> Result<(), String> {
+        for k in (1..self.quiet.len()).filter(|k| self.quiet[*k]) {
             for thread in (0..self.plan.threads()).filter(|t| self.waits(*t, k - 1)) {
                 seen.waits += 1;
                 if self.holds(thread, k - 1) {
@@ -246,6 +273,7 @@ impl<'a> Story<'a> {
             if let Some(low) = self.caller(c).filter(|l| self.below(*l, high)) {
                 seen.calls_while_active += 1;
                 seen.timer_calls += usize::from(self.is_timer_call(c));
+                seen.woken_among_reports += usize::from(!self.quiet[start]);
                 if !self.waits(low, start) && !self.blocks(low, high, start) {
                     return Err(format!("part 3: {low} calls at {c}, {high} active from {start}"));
                 }
@@ -283,7 +311,7 @@ impl<'a> Story<'a> {
         let Some(Call::Delay(n)) = self.call(d) else {
             return None;
         };
-        let ticks = (d + 1..=i).filter(|k| self.call(*k) == Some(Call::Tick)).count();
+        let ticks = (d + 1..=i).filter(|k| self.is_tick(*k)).count();
         if ticks == usize::from(n) + 1 {
             self.caller(d)
         } else {

@@ -9,11 +9,23 @@ use crate::timers::Arming;
 pub fn broken_rule(machine: &Machine, record: Record) -> Option<u8> {
     let apart = no_gives(stands_together(machine, record), 31);
     match record {
-        Record::Call(_) if machine.fault == Fault::Rule31After21 && !machine.due.is_empty() => Some(21),
-        Record::Call(call) => apart.or_else(|| broken_by_call(machine, call)),
+        Record::Call(call) => {
+            let early = no_gives(comes_in_time(machine, call), 21);
+            let first = match machine.fault {
+                Fault::Rule31After21 => early.or(apart),
+                _ => apart.or(early),
+            };
+            first.or_else(|| broken_by_call(machine, call))
+        }
         Record::Report(report) if machine.fault == Fault::Rule31OfCallsOnly => broken_by_report(machine, report),
         Record::Report(report) => apart.or_else(|| broken_by_report(machine, report)),
     }
+}
+
+/// Nothing is due at a call other than Tick.
+fn comes_in_time(machine: &Machine, call: Call) -> bool {
+    let asked = call != Call::Tick || machine.fault == Fault::Rule21OfTick;
+    !asked || machine.due.is_empty()
 }
 
 /// After Arm only Start, after Start only Period, and those two nowhere else.
@@ -27,9 +39,6 @@ fn stands_together(machine: &Machine, record: Record) -> bool {
 }
 
 fn broken_by_call(machine: &Machine, call: Call) -> Option<u8> {
-    if !machine.due.is_empty() {
-        return Some(21);
-    }
     match call {
         Call::Tick => None,
         Call::Create(thread) => no_gives(machine.conditions[thread] == Condition::Dormant, 23),

@@ -60,21 +60,27 @@ impl Timers {
         self.armed.remove(&timer);
     }
 
-    /// The timers that expire at this tick number, in the order of their reports. A periodic one expires again a period after that.
-    pub fn expire(&mut self, tick: u64, fault: Fault) -> Vec<usize> {
+    /// The timers that expire at this tick number, lower first, but for those that stand. A periodic one expires again a period after that.
+    pub fn expire(&mut self, tick: u64, standing: &[usize], fault: Fault) -> Vec<usize> {
         let at_this_tick = self.armed.iter().filter(|(_, timer)| timer.expiry == tick);
         let mut expired: Vec<usize> = at_this_tick.map(|(number, _)| *number).collect();
-        for timer in self.armed.values_mut().filter(|timer| timer.expiry == tick) {
-            timer.expiry += u64::from(timer.period);
-        }
-        // An alarm has not moved on, and is over.
-        if fault != Fault::AlarmStaysArmed {
-            self.armed.retain(|_, timer| timer.expiry != tick);
+        expired.retain(|number| !standing.contains(number));
+        for number in &expired {
+            self.move_on(*number, fault);
         }
         if fault == Fault::HigherTimerFirst {
             expired.reverse();
         }
         expired
+    }
+
+    /// To the next expiry; an alarm has none, and is over.
+    fn move_on(&mut self, number: usize, fault: Fault) {
+        match self.armed.get_mut(&number) {
+            Some(timer) if timer.period > 0 => timer.expiry += u64::from(timer.period),
+            _ if fault == Fault::AlarmStaysArmed => {}
+            _ => drop(self.armed.remove(&number)),
+        }
     }
 }
 

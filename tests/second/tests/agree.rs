@@ -3,9 +3,9 @@
 mod common;
 mod lists;
 
-use common::{numbers, random_plan, random_run, Random};
+use common::{interrupted_run, numbers, random_plan, random_run, Random};
 use lists::{bytes, calls_only};
-use second::{bench, bench_with, check, promise, promise_with, Fault, Reply, Verdict, Watch};
+use second::{bench, bench_with, check, check_with, promise, promise_with, Fault, Reply, Seen, Verdict, Watch};
 
 #[test]
 fn bench_check_and_step_agree() {
@@ -24,15 +24,33 @@ fn bench_check_and_step_agree() {
             due: 0,
         };
         assert_eq!(check(&plan, &dump), clean);
-        let mut watch = Watch::new(&plan).unwrap();
-        for k in 0..records.len() {
-            let (kind, operand) = records[k];
-            let Reply::Clean { due } = watch.step(kind, operand) else {
-                panic!("record {k}")
-            };
-            let verdict = check(&plan, &bytes(&records[..=k]));
-            assert_eq!(verdict, Verdict::Clean { records: k + 1, due });
-        }
+        check_and_step_agree(&plan, &records);
+    }
+}
+
+/// Every record is clean, with the same number due by both.
+fn check_and_step_agree(plan: &[u8], records: &[(u8, u16)]) {
+    let mut watch = Watch::new(plan).unwrap();
+    for k in 0..records.len() {
+        let (kind, operand) = records[k];
+        let Reply::Clean { due } = watch.step(kind, operand) else {
+            panic!("record {k}")
+        };
+        let verdict = check(plan, &bytes(&records[..=k]));
+        assert_eq!(verdict, Verdict::Clean { records: k + 1, due });
+    }
+}
+
+#[test]
+fn check_and_step_agree_with_ticks_among_reports() {
+    for seed in 0..300 {
+        let mut random = Random::new(seed);
+        let plan = random_plan(&mut random);
+        let records = numbers(&interrupted_run(&mut random, &plan, Fault::None, 80));
+        check_and_step_agree(&plan, &records);
+        // The same calls, each made with earlier reports given, are admitted too.
+        let mut out = vec![0; 5000];
+        assert!(bench(&plan, &bytes(&calls_only(&records)), &mut out).is_ok());
     }
 }
 
@@ -41,7 +59,7 @@ fn a_changed_record_gives_the_same_breach_everywhere() {
     for seed in 0..300 {
         let mut random = Random::new(seed);
         let plan = random_plan(&mut random);
-        let mut records = numbers(&random_run(&mut random, &plan, Fault::None, 60));
+        let mut records = numbers(&interrupted_run(&mut random, &plan, Fault::None, 60));
         if records.is_empty() {
             continue;
         }
@@ -79,10 +97,31 @@ fn demand_3_holds() {
     for seed in 1000..2500 {
         let mut random = Random::new(seed);
         let plan = random_plan(&mut random);
-        let records = numbers(&random_run(&mut random, &plan, Fault::None, 70));
-        let cut = random.below(records.len() + 1);
-        promise(&plan, &records).unwrap_or_else(|e| panic!("seed {seed}: {e}"));
-        promise(&plan, &records[..cut]).unwrap_or_else(|e| panic!("seed {seed}, cut: {e}"));
+        let whole = random_run(&mut random, &plan, Fault::None, 70);
+        let interrupted = interrupted_run(&mut random, &plan, Fault::None, 70);
+        for records in [numbers(&whole), numbers(&interrupted)] {
+            let cut = random.below(records.len() + 1);
+            promise(&plan, &records).unwrap_or_else(|e| panic!("seed {seed}: {e}"));
+            promise(&plan, &records[..cut]).unwrap_or_else(|e| panic!("seed {seed}, cut: {e}"));
+        }
+    }
+}
+
+#[test]
+fn demand_3_is_asked_with_ticks_among_reports() {
+    let seen = (0..300).map(|seed| {
+        let mut random = Random::new(seed);
+        let plan = random_plan(&mut random);
+        let records = numbers(&interrupted_run(&mut random, &plan, Fault::None, 70));
+        promise(&plan, &records).unwrap()
+    });
+    let seen: Vec<Seen> = seen.collect();
+    for count in [
+        |seen: &Seen| seen.ticks_among_reports,
+        |seen: &Seen| seen.parted_by_ticks,
+        |seen: &Seen| seen.woken_among_reports,
+    ] {
+        assert!(seen.iter().map(count).sum::<usize>() > 0);
     }
 }
 
@@ -92,7 +131,7 @@ fn broken_parts(fault: Fault) -> Vec<String> {
     for seed in 0..200 {
         let mut random = Random::new(seed);
         let plan = random_plan(&mut random);
-        let records = numbers(&random_run(&mut random, &plan, fault, 70));
+        let records = numbers(&interrupted_run(&mut random, &plan, fault, 70));
         if let Err(text) = promise_with(fault, &plan, &records) {
             let part = text.split(':').next().unwrap().to_string();
             if !parts.contains(&part) {
@@ -136,6 +175,38 @@ fn any_call(random: &mut Random) -> (u8, u16) {
     calls[random.below(calls.len())]
 }
 
+/// What a Tick with reports due does wrong; question 21 among it.
+const OF_TICKS: [Fault; 7] = [
+    Fault::Rule21OfTick,
+    Fault::SwitchKeptAtTick,
+    Fault::SwitchMovedToFront,
+    Fault::ReportedFromDroppedSwitch,
+    Fault::ExpireOwedTwice,
+    Fault::OwedTimerStands,
+    Fault::DelayFromSwitch,
+];
+
+/// What question 12 does wrong.
+const OF_LENT_STATES: [Fault; 4] = [
+    Fault::SwitchDueAnywhere,
+    Fault::SwitchAmongClaims,
+    Fault::OwedTimersAmongClaims,
+    Fault::ClaimsWithoutOne,
+];
+
+#[test]
+fn interrupted_runs_tell_the_tick_faults_apart() {
+    for fault in OF_TICKS {
+        let told = (0..300).any(|seed| {
+            let mut random = Random::new(seed);
+            let plan = random_plan(&mut random);
+            let dump = bytes(&numbers(&interrupted_run(&mut random, &plan, Fault::None, 60)));
+            check(&plan, &dump) != check_with(fault, &plan, &dump)
+        });
+        assert!(told, "{} was not told apart", fault.name());
+    }
+}
+
 #[test]
 fn random_runs_tell_the_machine_faults_apart() {
     // These do not show in the dump of a list: its kinds and operands are allowed, its reports are the due ones, its calls come with nothing due,
@@ -149,6 +220,7 @@ fn random_runs_tell_the_machine_faults_apart() {
         Fault::Rule31OfCallsOnly,
         Fault::CountNotCapped,
     ];
+    let silent = [&silent[..], &OF_TICKS, &OF_LENT_STATES].concat();
     for fault in Fault::ALL.into_iter().filter(|f| !silent.contains(f)) {
         let told = (0..2000).any(|seed| {
             let mut random = Random::new(seed);

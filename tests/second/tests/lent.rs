@@ -93,9 +93,7 @@ fn numbers_out_of_range() {
 
 #[test]
 fn reports_out_of_range() {
-    passes(|p| p.due = vec![(16, 3), (17, NOBODY), (18, 0), (19, 1), (20, 2), (21, 7), (22, NOBODY)]);
-    passes(|p| p.due = vec![(16, 0); 13]);
-    is_12(|p| p.due = vec![(16, 0); 14]);
+    passes(|p| p.due = vec![(16, 3), (18, 0), (19, 1), (20, 2), (21, 7), (22, NOBODY), (17, NOBODY)]);
     is_12(|p| p.due = vec![(15, 0)]);
     is_12(|p| p.due = vec![(23, 0)]);
     is_12(|p| p.due = vec![(17, 4)]);
@@ -104,6 +102,72 @@ fn reports_out_of_range() {
     for kind in [16, 18, 19, 20] {
         is_12(|p| p.due = vec![(kind, NOBODY)]);
     }
+}
+
+/// That many Readys, and these behind them.
+fn readys_and(number: usize, behind: &[(u8, u16)]) -> Vec<(u8, u16)> {
+    [&vec![(16, 0); number], behind].concat()
+}
+
+#[test]
+fn a_switch_due_is_the_last() {
+    passes(|p| p.due = vec![(17, 0)]);
+    passes(|p| p.due = readys_and(2, &[(17, NOBODY)]));
+    for due in [
+        readys_and(0, &[(17, 0), (16, 0)]),
+        readys_and(0, &[(17, 0), (17, 0)]),
+        readys_and(1, &[(17, NOBODY), (21, 0)]),
+        readys_and(2, &[(17, 0), (16, 1), (17, 0)]),
+    ] {
+        is_12(|p| p.due = due.clone());
+        let parts = Parts { due, ..good() };
+        let mut faulty = Watch::from_parts_with(Fault::SwitchDueAnywhere, parts);
+        assert_eq!(faulty.step(0, 0), Reply::Refused(7));
+    }
+}
+
+#[test]
+fn reports_due_sleepers_and_timers_and_one_are_at_most_nine_more_than_the_threads() {
+    // T + 9 is 13. One sleeper, two armed timers and one leave room for nine, and a Switch.
+    passes(|p| p.due = readys_and(9, &[]));
+    passes(|p| p.due = readys_and(9, &[(17, 1)]));
+    is_12(|p| p.due = readys_and(10, &[]));
+    // Timers 2 and 5 are armed; once owed an Expire they are not counted again, but each Expire is, and that of timer 0.
+    passes(|p| p.due = readys_and(9, &[(21, 2), (21, 5)]));
+    is_12(|p| p.due = readys_and(10, &[(21, 2), (21, 5)]));
+    passes(|p| p.due = readys_and(8, &[(21, 2), (21, 2)]));
+    is_12(|p| p.due = readys_and(9, &[(21, 2), (21, 2)]));
+    is_12(|p| p.due = readys_and(9, &[(21, 0)]));
+    // One sleeper more, and one armed timer more or less.
+    let asleep = |p: &mut Parts, number| (p.conditions[3], p.delays, p.due) = ((2, 9), vec![2, 3], readys_and(number, &[]));
+    passes(|p| asleep(p, 8));
+    is_12(|p| asleep(p, 9));
+    let armed = |p: &mut Parts, number| (p.timers[0], p.due) = ((3, 0), readys_and(number, &[]));
+    passes(|p| armed(p, 8));
+    is_12(|p| armed(p, 9));
+    passes(|p| (p.timers[2], p.due) = ((0, 0), readys_and(10, &[])));
+    is_12(|p| (p.timers[2], p.due) = ((0, 0), readys_and(11, &[])));
+}
+
+#[test]
+fn nothing_but_reports() {
+    let idle = |p: &mut Parts, due| (p.conditions[2], p.delays, p.timers, p.due) = ((0, 0), Vec::new(), Parts::default().timers, due);
+    passes(|p| idle(p, readys_and(12, &[(17, 0)])));
+    // T + 9 reports, none of them a Switch.
+    is_12(|p| idle(p, readys_and(13, &[])));
+    is_12(|p| idle(p, readys_and(13, &[(17, 0)])));
+    is_12(|p| idle(p, readys_and(14, &[])));
+}
+
+#[test]
+fn the_mistakes_about_what_is_counted() {
+    let passes_with = |fault, due: Vec<(u8, u16)>| {
+        let mut watch = Watch::from_parts_with(fault, Parts { due, ..good() });
+        watch.step(0, 0) == Reply::Refused(7)
+    };
+    assert!(!passes_with(Fault::SwitchAmongClaims, readys_and(9, &[(17, 1)])));
+    assert!(!passes_with(Fault::OwedTimersAmongClaims, readys_and(9, &[(21, 2), (21, 5)])));
+    assert!(passes_with(Fault::ClaimsWithoutOne, readys_and(10, &[])));
 }
 
 #[test]
@@ -210,9 +274,10 @@ fn a_breach_is_stored_and_answered_again() {
     let mut watch = Watch::new(&[1, 0, 1, 0, 0]).unwrap();
     assert_eq!(watch.step(1, 0), Reply::Clean { due: 2 });
     let before = watch.parts().clone();
-    assert_eq!(watch.step(7, 0), Reply::Broken(21));
+    assert_eq!(watch.step(3, 0), Reply::Broken(21));
     assert_eq!(*watch.parts(), Parts { stored: 21, ..before });
     assert_eq!(watch.step(16, 0), Reply::Broken(21));
+    assert_eq!(watch.step(7, 0), Reply::Broken(21));
     assert_eq!(watch.step(7, 1), Reply::Refused(8));
     assert_eq!(watch.step(0, 0), Reply::Refused(7));
     assert_eq!(Watch::new(&[1]), Err(1));

@@ -2,6 +2,8 @@
 
 use second::{broken_rule, Arming, Call, Fault, Machine, Plan, Record};
 
+const TICK: Record = Record::Call(Call::Tick);
+
 /// A small generator of repeatable numbers (xorshift).
 pub struct Random(u64);
 
@@ -51,18 +53,32 @@ fn admitted(machine: &Machine) -> Vec<Call> {
 
 /// That many calls with their reports, as a machine with that fault makes them, and the rest of an arming.
 pub fn random_run(random: &mut Random, plan: &[u8], fault: Fault, calls: usize) -> Vec<Record> {
+    run(random, plan, fault, calls, 0)
+}
+
+/// The same with up to three Ticks between a call and the last of its reports, where the machine admits them.
+pub fn interrupted_run(random: &mut Random, plan: &[u8], fault: Fault, calls: usize) -> Vec<Record> {
+    run(random, plan, fault, calls, 3)
+}
+
+fn run(random: &mut Random, plan: &[u8], fault: Fault, calls: usize, ticks_between: usize) -> Vec<Record> {
     let mut machine = Machine::new(Plan::read(plan, Fault::None).unwrap(), fault);
     let mut records = Vec::new();
     let mut made = 0;
     while made < calls || machine.timers.arming != Arming::Idle {
         made += 1;
         let choice = admitted(&machine);
-        let record = Record::Call(choice[random.below(choice.len())]);
-        machine.advance(record);
-        records.push(record);
-        while let Some(report) = machine.due.front().copied() {
-            machine.advance(Record::Report(report));
-            records.push(Record::Report(report));
+        let mut record = Record::Call(choice[random.below(choice.len())]);
+        let mut ticks = random.below(ticks_between + 1);
+        loop {
+            machine.advance(record);
+            records.push(record);
+            let Some(report) = machine.due.front() else { break };
+            record = Record::Report(*report);
+            if ticks > 0 && random.below(3) == 0 && broken_rule(&machine, TICK).is_none() {
+                ticks -= 1;
+                record = TICK;
+            }
         }
     }
     records

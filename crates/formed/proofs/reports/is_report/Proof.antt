@@ -8,7 +8,7 @@ use borrow.Author.Tests.{eqb-true, eqb-false, le-leb, lt-leb}
 use lib.Dec.{leb, ltb}
 use Rattle.model.specs.Records.{nobody, report, allowed}
 use Rattle.plan.specs.View.{view}
-use Rattle.machine.specs.Lists.{reportOf}
+use Rattle.due.specs.Lists.{reportOf}
 use Rattle.formed.proofs.Outside.{second-asked, first-fails}
 use Rattle.formed.proofs.Reported.{to-nobody, of-timer, of-count, to-thread}
 use Rattle.formed.proofs.reports.is_report.Statement.{statement}

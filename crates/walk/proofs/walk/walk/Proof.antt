@@ -2,21 +2,22 @@
 -- running place is that record's.
 -- Each way through the loop is one of the machine's answers.
 use mathlib.Core.Path.{_≡_, refl, ap, sym, subst, _∙_}
-use mathlib.Core.Logic.{⊎-elim}
+use mathlib.Core.Logic.{_≢_, ⊎-elim}
+use mathlib.Core.Bool.{false, _&&_, true≢false}
 use Prim.Native.Nat.{_+_, _-_, _≤_, _<_}
 use native.Mathlib.Omega.{arith}
 use borrow.Author.Needs.{needs}
-use borrow.Author.Tests.{ltb-true}
-use lib.Dec.{T, eqb→eq}
+use lib.Dec.{T, leb, ltb, leb→le, ltb→lt, eqb→eq}
 use Rattle.model.specs.Records as records
-use Rattle.model.specs.Records.{call}
+use Rattle.model.specs.Records.{call, isTick, isTickRecord}
 use Rattle.model.specs.Rules.{stage, callPlace, inOrder}
+use Rattle.model.proofs.Tests.{from-true, and-left, and-right}
 use Rattle.machine.specs.declared.reporting.Reporting.{Reporting}
-use Rattle.machine.specs.Lists.{reportOf}
+use Rattle.due.specs.Lists.{reportOf}
 use Rattle.machine.specs.View.{view, shown}
 use Rattle.machine.specs.Records as machine
 use Rattle.machine.specs.Contracts.{passed}
-use Rattle.machine.specs.Calls.{Apart, Asks, Calls, Answers, Called, inPlace, Closes}
+use Rattle.machine.specs.Calls.{Apart, Asks, Calls, Ticks, Answers, Called, inPlace, Closes}
 use Rattle.machine.proofs.Laws.{named-place, arming-known, heard-answers, unasked-answers, passed-answers}
 use Rattle.dump.specs.Layout.{recordCount, recordOf, recordAt, runningPlace}
 use Rattle.dump.specs.Questions.{operandFits}
@@ -81,35 +82,43 @@ named e = let r = e .entry-at .result in subst (machine.Named (r .kind) (r .oper
 hears-requires : tie.Need-hears-requires Inv-loop μ-loop
 hears-requires c κs = arming-known (here c .loop .c) (asks c .formed')
 
--- in its place something is due
-due : (t : tie.Then1 Inv-loop μ-loop) → (let e = t .before .before in let c = here e .loop .c in T (inPlace (c .machine) (e .entry-at .result .kind)) → c .given < c .due)
+-- in its place something is due, and it is no Tick
+due : (t : tie.Then1 Inv-loop μ-loop) → (let e = t .before .before in let c = here e .loop .c in let k = e .entry-at .result .kind in T (inPlace (c .machine) k) → (k ≢ 7) × (c .given < c .due))
 due t o =
     let e = t .before .before in
     let c = here e .loop .c in
-    heard-due (c .given) (c .due) (inPlace (c .machine) (e .entry-at .result .kind)) (sym (t .before .hears .ensures) ∙ t .if1 .taken) o
+    heard-due (e .entry-at .result .kind) (c .given) (c .due) (inPlace (c .machine) (e .entry-at .result .kind)) (sym (t .before .hears .ensures) ∙ t .if1 .taken) o
 
 heard-requires : tie.Need-heard-requires Inv-loop μ-loop
-heard-requires c κs = record { formed' = asks (c .before .before) .formed'; due' = due c }
+heard-requires c κs = record { formed' = asks (c .before .before) .formed'; due' = λ o. due c o .1 }
 
--- nothing is due, and the record stands in its place
-unheard : (t : tie.Else1 Inv-loop μ-loop) → (let e = t .before .before in let c = here e .loop .c in (c .due ≤ c .given) × T (inOrder (shown c .timers .arming) (at e)))
+-- nothing is due but where it is a Tick, and the record stands in its place
+unheard : (t : tie.Else1 Inv-loop μ-loop) → (let e = t .before .before in let c = here e .loop .c in (isTickRecord (at e) ≡ false → c .due ≤ c .given) × T (inOrder (shown c .timers .arming) (at e)))
 unheard t =
     let e = t .before .before in
     let c = here e .loop .c in
-    let u = not-heard (c .given) (c .due) (inPlace (c .machine) (e .entry-at .result .kind)) (sym (t .before .hears .ensures) ∙ t .if1 .left) in
-    (u .0, rw (named-place (named e)) (u .1))
+    let u = not-heard (e .entry-at .result .kind) (c .given) (c .due) (inPlace (c .machine) (e .entry-at .result .kind)) (sym (t .before .hears .ensures) ∙ t .if1 .left) in
+    let other : isTickRecord (at e) ≡ false → e .entry-at .result .kind ≢ 7 =
+    λ n z. true≢false (ap isTickRecord (ap (λ k. recordOf k (e .entry-at .result .operand)) (sym z) ∙ is-record e) ∙ n) in
+    (λ n. u .0 (other n), rw (named-place (named e)) (u .1))
 
--- a call that is record i, in its place and with nothing due
-calls : (t : tie.Else1 Inv-loop μ-loop) {k : records.Call} → at (t .before .before) ≡ call k → Calls (here (t .before .before) .loop .c) (start (here (t .before .before)) .args .ceilings .now) k
-calls t {k} q =
+-- a call that is record i, in its place
+ordered : (t : tie.Else1 Inv-loop μ-loop) {k : records.Call} → at (t .before .before) ≡ call k → stage (shown (here (t .before .before) .loop .c) .timers .arming) ≡ callPlace k
+ordered t {k} q =
+    let st = shown (here (t .before .before) .loop .c) in
+    eqb→eq (stage (st .timers .arming)) (callPlace k) (subst (λ r. T (inOrder (st .timers .arming) r)) q (unheard t .1))
+
+-- other than Tick it comes with nothing due
+calls : (t : tie.Else1 Inv-loop μ-loop) {k : records.Call} → isTick k ≡ false → at (t .before .before) ≡ call k → Calls (here (t .before .before) .loop .c) (start (here (t .before .before)) .args .ceilings .now) k
+calls t n q =
     let e = t .before .before in
-    let c = here e .loop .c in
-    let u = unheard t in
-    record {
-      asks = subst (λ r. Asks c (start (here e) .args .ceilings .now) r) q (asks e);
-      undue = u .0;
-      ordered = eqb→eq (stage (shown c .timers .arming)) (callPlace k) (subst (λ r. T (inOrder (shown c .timers .arming) r)) q (u .1));
-    }
+    record { asks = subst (λ r. Asks (here e .loop .c) (start (here e) .args .ceilings .now) r) q (asks e); undue = unheard t .0 (ap isTickRecord q ∙ n); ordered = ordered t q }
+
+-- a Tick, whatever is due
+ticks : (t : tie.Else1 Inv-loop μ-loop) → at (t .before .before) ≡ call records.Tick → Ticks (here (t .before .before) .loop .c) (start (here (t .before .before)) .args .ceilings .now)
+ticks t q =
+    let e = t .before .before in
+    record { asks = subst (λ r. Asks (here e .loop .c) (start (here e) .args .ceilings .now) r) q (asks e); ordered = ordered t q }
 
 -- kind 7 is Tick
 is-tick : (t : tie.Then2 Inv-loop μ-loop) → at (t .before .before .before .before) ≡ call records.Tick
@@ -117,14 +126,14 @@ is-tick t =
     let e = t .before .before .before .before in
     sym (is-record e) ∙ ap (λ k. recordOf k (e .entry-at .result .operand)) (t .if2 .taken)
 
-ticks : (t : tie.Then2 Inv-loop μ-loop) → (let n = t .before .before .before .before in Calls (here n .loop .c) (start (here n) .args .ceilings .now) records.Tick)
-ticks t = calls (t .before .before) (is-tick t)
+ticks-by : (t : tie.Then2 Inv-loop μ-loop) → (let n = t .before .before .before .before in Ticks (here n .loop .c) (start (here n) .args .ceilings .now))
+ticks-by t = ticks (t .before .before) (is-tick t)
 
 is-quiet-requires : tie.Need-is-quiet-requires Inv-loop μ-loop
-is-quiet-requires c κs = ticks c .asks .tick' refl
+is-quiet-requires c κs = ticks-by c .asks .tick' refl
 
 passed-requires : tie.Need-passed-requires Inv-loop μ-loop
-passed-requires c κs = ticks (c .before .before) .asks .tick' refl
+passed-requires c κs = ticks-by (c .before .before) .asks .tick' refl
 
 record-of-requires : tie.Need-record-of-requires Inv-loop μ-loop
 record-of-requires c κs = readable (c .before .before .before .before)
@@ -141,43 +150,43 @@ enum-known-t : tie.Need-enum-known-t Inv-loop μ-loop
 enum-known-t c = search needs
 
 create-requires : tie.Need-create-requires Inv-loop μ-loop
-create-requires c κs = let o = c .before .before .before in calls (undue-at o) (is-read o (ap machine.recordOf (c .before .t .given .1)))
+create-requires c κs = let o = c .before .before .before in calls (undue-at o) refl (is-read o (ap machine.recordOf (c .before .t .given .1)))
 
 enum-known-w : tie.Need-enum-known-w Inv-loop μ-loop
 enum-known-w c = search needs
 
 delay-requires : tie.Need-delay-requires Inv-loop μ-loop
-delay-requires c κs = let o = c .before .before .before in calls (undue-at o) (is-read o (ap machine.recordOf (c .before .w .given .1)))
+delay-requires c κs = let o = c .before .before .before in calls (undue-at o) refl (is-read o (ap machine.recordOf (c .before .w .given .1)))
 
 enum-told : tie.Need-enum-told Inv-loop μ-loop
 enum-told c = search needs
 
 relinquish-requires : tie.Need-relinquish-requires Inv-loop μ-loop
-relinquish-requires c κs = let o = c .before .before in calls (undue-at o) (is-read o (ap machine.recordOf (c .enum-told .given .1)))
+relinquish-requires c κs = let o = c .before .before in calls (undue-at o) refl (is-read o (ap machine.recordOf (c .enum-told .given .1)))
 
 enum-told-2 : tie.Need-enum-told-2 Inv-loop μ-loop
 enum-told-2 c = search needs
 
 end-requires : tie.Need-end-requires Inv-loop μ-loop
-end-requires c κs = let o = c .before .before in calls (undue-at o) (is-read o (ap machine.recordOf (c .enum-told2 .given .1)))
+end-requires c κs = let o = c .before .before in calls (undue-at o) refl (is-read o (ap machine.recordOf (c .enum-told2 .given .1)))
 
 enum-known-n : tie.Need-enum-known-n Inv-loop μ-loop
 enum-known-n c = search needs
 
 take-requires : tie.Need-take-requires Inv-loop μ-loop
-take-requires c κs = let o = c .before .before .before in calls (undue-at o) (is-read o (ap machine.recordOf (c .before .n .given .1)))
+take-requires c κs = let o = c .before .before .before in calls (undue-at o) refl (is-read o (ap machine.recordOf (c .before .n .given .1)))
 
 enum-known-n-2 : tie.Need-enum-known-n-2 Inv-loop μ-loop
 enum-known-n-2 c = search needs
 
 give-requires : tie.Need-give-requires Inv-loop μ-loop
-give-requires c κs = let o = c .before .before .before in calls (undue-at o) (is-read o (ap machine.recordOf (c .before .n2 .given .1)))
+give-requires c κs = let o = c .before .before .before in calls (undue-at o) refl (is-read o (ap machine.recordOf (c .before .n2 .given .1)))
 
 enum-told-3 : tie.Need-enum-told-3 Inv-loop μ-loop
 enum-told-3 c = search needs
 
 tick-requires : tie.Need-tick-requires Inv-loop μ-loop
-tick-requires c κs = let o = c .before .before in calls (undue-at o) (is-read o (ap machine.recordOf (c .enum-told3 .given .1)))
+tick-requires c κs = let o = c .before .before in ticks (undue-at o) (is-read o (ap machine.recordOf (c .enum-told3 .given .1)))
 
 -- the calls that set timers ask for the ceilings of their plan
 
@@ -185,25 +194,25 @@ enum-known-t-2 : tie.Need-enum-known-t-2 Inv-loop μ-loop
 enum-known-t-2 c = search needs
 
 arm-requires : tie.Need-arm-requires Inv-loop μ-loop
-arm-requires c κs = let o = c .before .before .before in plan-ceilings (calls (undue-at o) (is-read o (ap machine.recordOf (c .before .t2 .given .1))))
+arm-requires c κs = let o = c .before .before .before in plan-ceilings (calls (undue-at o) refl (is-read o (ap machine.recordOf (c .before .t2 .given .1))))
 
 enum-known-n-3 : tie.Need-enum-known-n-3 Inv-loop μ-loop
 enum-known-n-3 c = search needs
 
 start-requires : tie.Need-start-requires Inv-loop μ-loop
-start-requires c κs = let o = c .before .before .before in plan-ceilings (calls (undue-at o) (is-read o (ap machine.recordOf (c .before .n3 .given .1))))
+start-requires c κs = let o = c .before .before .before in plan-ceilings (calls (undue-at o) refl (is-read o (ap machine.recordOf (c .before .n3 .given .1))))
 
 enum-known-n-4 : tie.Need-enum-known-n-4 Inv-loop μ-loop
 enum-known-n-4 c = search needs
 
 period-requires : tie.Need-period-requires Inv-loop μ-loop
-period-requires c κs = let o = c .before .before .before in plan-ceilings (calls (undue-at o) (is-read o (ap machine.recordOf (c .before .n4 .given .1))))
+period-requires c κs = let o = c .before .before .before in plan-ceilings (calls (undue-at o) refl (is-read o (ap machine.recordOf (c .before .n4 .given .1))))
 
 enum-known-t-3 : tie.Need-enum-known-t-3 Inv-loop μ-loop
 enum-known-t-3 c = search needs
 
 cancel-requires : tie.Need-cancel-requires Inv-loop μ-loop
-cancel-requires c κs = let o = c .before .before .before in plan-ceilings (calls (undue-at o) (is-read o (ap machine.recordOf (c .before .t3 .given .1))))
+cancel-requires c κs = let o = c .before .before .before in plan-ceilings (calls (undue-at o) refl (is-read o (ap machine.recordOf (c .before .t3 .given .1))))
 
 enum-told-4 : tie.Need-enum-told-4 Inv-loop μ-loop
 enum-told-4 c = search needs
@@ -230,8 +239,13 @@ answered j =
     (⊎-elim
     (λ w.
     let t : tie.Then2 Inv-loop μ-loop = record { before = record { before = record { before = o; if1 = w .0 }; struct-known = w .1 }; if2 = w .2 } in
-    let q = ltb-true (old .machine .tick .0 + 1) (old .quiet .0) (sym (w .3 .ensures) ∙ w .4 .taken) in
-    is (w .6 ∙ w .5 .ensures) (subst (λ y. Answers (passed old) old y) (sym (is-tick t)) (passed-answers (ticks t) (here e .loop .inv .0) q)))
+    let undue = leb (old .due) (old .given) in
+    let below = ltb (old .machine .tick .0 + 1) (old .quiet .0) in
+    let q = from-true (undue && below) (sym (w .3 .ensures) ∙ w .4 .taken) in
+    let k = ticks-by t in
+    let calm : Calls old (start (here e) .args .ceilings .now) records.Tick = record { asks = k .asks; undue = leb→le (old .due) (old .given) (and-left undue below q); ordered = k .ordered } in
+    is (w .6 ∙ w .5 .ensures)
+    (subst (λ y. Answers (passed old) old y) (sym (is-tick t)) (passed-answers calm (here e .loop .inv .0) (ltb→lt (old .machine .tick .0 + 1) (old .quiet .0) (and-right undue below q)))))
     (⊎-elim (λ w. made (record { before = record { before = record { before = record { before = o; if1 = w .0 }; struct-known = w .1 }; if2 = w .2 }; record-of = w .3 }) (ap machine.recordOf (w .5 .given .1)) (w .8) (w .7 .ensures))
     (⊎-elim (λ w. made (record { before = record { before = record { before = record { before = o; if1 = w .0 }; struct-known = w .1 }; if2 = w .2 }; record-of = w .3 }) (ap machine.recordOf (w .5 .given .1)) (w .8) (w .7 .ensures))
     (⊎-elim (λ w. made (record { before = record { before = record { before = record { before = o; if1 = w .0 }; struct-known = w .1 }; if2 = w .2 }; record-of = w .3 }) (ap machine.recordOf (w .5 .given .1)) (w .7) (w .6 .ensures))
@@ -245,7 +259,7 @@ answered j =
     (⊎-elim (λ w. made (record { before = record { before = record { before = record { before = o; if1 = w .0 }; struct-known = w .1 }; if2 = w .2 }; record-of = w .3 }) (ap machine.recordOf (w .5 .given .1)) (w .8) (w .7 .ensures))
     (λ w.
     let r : tie.After-record-of Inv-loop μ-loop = record { before = record { before = record { before = record { before = o; if1 = w .0 }; struct-known = w .1 }; if2 = w .2 }; record-of = w .3 } in
-    is (w .7 ∙ w .6 .ensures) (let u = unheard (undue-at r) in unasked-answers (asks e) (u .1) (u .0) (reportOf (w .5 .given .0 .0)) (is-read r (ap machine.recordOf (w .5 .given .1)))))))))))))))))
+    is (w .7 ∙ w .6 .ensures) (let u = unheard (undue-at r) in let q = is-read r (ap machine.recordOf (w .5 .given .1)) in unasked-answers (asks e) (u .1) (u .0 (ap isTickRecord q)) (reportOf (w .5 .given .0 .0)) q))))))))))))))
     (j .if1 .came)
 
 add-i : tie.Need-add-i Inv-loop μ-loop

@@ -9,9 +9,9 @@ use mathlib.Core.List.{List}
 use lib.ListN.{getD, set, drop}
 use lib.Seq.{getD-set-same, getD-set-other}
 use Rattle.model.proofs.Tests.{equal?}
-use Rattle.machine.specs.declared.reports.Report.{Report}
+use Rattle.due.specs.declared.reports.Report.{Report}
 use Rattle.machine.specs.declared.reporting.Reporting.{Reporting}
-use Rattle.machine.specs.Lists.{reportRoom, reportOf, noReport, switchTo}
+use Rattle.due.specs.Lists.{reportRoom, reportOf, noReport, switchTo}
 use Rattle.machine.specs.View.{viewed, reportAt}
 use Rattle.machine.specs.Calls.{Apart, Closes}
 use Rattle.model.proofs.Loops.{listed-alike}

@@ -10,10 +10,10 @@ use Rattle.model.specs.State.{asleep}
 use Rattle.model.specs.Calls.{delay}
 use Rattle.machine.specs.declared.Machine.{Machine}
 use Rattle.machine.specs.declared.slots.Slots.{Slots}
-use Rattle.machine.specs.declared.reports.Reports.{Reports}
+use Rattle.due.specs.declared.reports.Reports.{Reports}
 use Rattle.machine.specs.View.{conditionsOf, reportsIn}
 use Rattle.machine.specs.Rules.{freeRule}
-use Rattle.machine.specs.Lists.{owed}
+use Rattle.due.specs.Lists.{owed}
 use Rattle.machine.proofs.Admitted.{Asked, Runs, Makes, admits, refuses, by}
 use Rattle.machine.proofs.Asking.{delay-rule, delays}
 use Rattle.machine.proofs.Facts.{facts}

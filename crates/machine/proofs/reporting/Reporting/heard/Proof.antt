@@ -10,14 +10,15 @@ use borrow.Author.Tests.{eq-eqb, ne-eqb, lt-ltb}
 use lib.Dec.{T, eqb}
 use lib.ListN.{length}
 use Rattle.model.proofs.Tests.{from-true}
-use Rattle.machine.specs.declared.reports.Report.{Report}
+use Rattle.due.specs.declared.reports.Report.{Report}
 use Rattle.machine.specs.declared.reporting.Reporting.{Reporting}
-use Rattle.machine.specs.Lists.{reportRoom}
+use Rattle.due.specs.Lists.{reportRoom}
 use Rattle.machine.specs.View.{reportAt}
 use Rattle.machine.specs.Rules.{dueRule}
 use Rattle.machine.specs.Calls.{inPlace, Hearing, told, barred, Hears}
 use Rattle.machine.proofs.Facts.{facts}
-use Rattle.machine.proofs.Owing.{due-known, unowed, within}
+use Rattle.due.proofs.Laws.{within}
+use Rattle.machine.proofs.Owing.{due-known, unowed}
 use Rattle.machine.proofs.Sized.{reporting-size}
 use Rattle.machine.proofs.reporting.Reporting.heard.Statement.{statement}
 use Rattle.machine.proofs.reporting.Reporting.heard.Tie as tie

@@ -5,8 +5,8 @@ use Prim.Native.Nat.{ℕ, zero, suc, _≤_}
 use native.Mathlib.Omega.{arith}
 use borrow.Author.Needs.{needs}
 use lib.ListN.{length, getD, set}
-use Rattle.machine.specs.declared.reports.Report.{Report}
-use Rattle.machine.specs.Lists.{noReport, listed}
+use Rattle.due.specs.declared.reports.Report.{Report}
+use Rattle.due.specs.Lists.{noReport, listed}
 use Rattle.machine.proofs.Sized.{reporting-size}
 use Rattle.machine.proofs.reporting.Reporting.making.Statement.{statement}
 use Rattle.machine.proofs.reporting.Reporting.making.Tie as tie

@@ -9,8 +9,8 @@ use lib.Dec.{eqb}
 use Rattle.model.specs.Records as records
 use Rattle.model.specs.Timers.{lateDue}
 use Rattle.clock.specs.View as timing
-use Rattle.machine.specs.declared.reports.Made.{Made}
-use Rattle.machine.specs.Lists.{Tells}
+use Rattle.due.specs.declared.made.Made.{Made}
+use Rattle.due.specs.Lists.{Tells}
 use Rattle.machine.proofs.Asking.{period-rule}
 use Rattle.machine.proofs.Facts.{facts}
 use Rattle.machine.proofs.Outcomes.{caller-asked}

@@ -1,29 +1,35 @@
--- `tick` meets its contract: the timers whose tick number this is are reported, and behind them the sleepers that wake, in the order of their Delays.
+-- `tick` meets its contract: behind the reports still due but a Switch the timers whose tick number this is and that are owed none are reported, and
+-- behind them the sleepers that wake, in the order of their Delays.
 use mathlib.Core.Path.{_≡_, refl, ap, ap₂, sym, subst, _∙_}
-use mathlib.Core.List.{map, _++_}
-use Prim.Native.Nat.{ℕ, suc}
+use mathlib.Core.List.{List, map, _++_, append-assoc}
+use Prim.Native.Nat.{ℕ, suc, _+_, _≤_}
 use native.Mathlib.Omega.{arith}
+use lib.ListN.{drop}
 use Rattle.model.specs.Searches.{filter}
-use Rattle.model.specs.State.{allReady}
+use Rattle.model.specs.State.{allReady, withoutSwitch}
 use Rattle.model.specs.Records as records
 use Rattle.model.specs.Records.{Ready, Expire}
 use Rattle.model.specs.Timers.{expired, moveOn}
 use Rattle.model.specs.Calls.{tick, sleepers, stillAsleep}
+use Rattle.model.specs.Formed.{claims}
 use Rattle.lists.specs.Lists.{queued}
 use Rattle.machine.specs.declared.Machine.{Machine}
-use Rattle.machine.specs.declared.reports.Reports.{Reports}
+use Rattle.due.specs.declared.reports.Reports.{Reports}
+use Rattle.due.specs.Lists.{owed}
 use Rattle.machine.specs.declared.reporting.Reporting.{Reporting}
-use Rattle.machine.specs.View.{conditionsOf, idle}
+use Rattle.machine.specs.View.{conditionsOf, idle, shown}
 use Rattle.machine.specs.Contracts.{wakesAt, owing}
 use Rattle.machine.specs.Calls.{Quiet, Called}
-use Rattle.machine.proofs.Admitted.{Makes, admits}
+use Rattle.machine.proofs.Admitted.{MakesOf}
 use Rattle.machine.proofs.Asking.{tick-rule}
 use Rattle.machine.proofs.Facts.{Facts, facts}
 use Rattle.machine.proofs.Meets.{alike}
 use Rattle.machine.proofs.Room.{sleepers-room}
-use Rattle.machine.proofs.Woken.{placed-ready, woken-are, asleep-are, asleep-fit, ready-room}
+use Rattle.machine.proofs.Woken.{placed-ready, woken-are, asleep-are, asleep-fit, kept-expired, expire-room, ready-room}
 use Rattle.machine.proofs.Quieted.{tick-sleeps, next-quiet}
-use Rattle.machine.proofs.Outcomes.{tick-asked, call-settles, call-answers}
+use Rattle.machine.proofs.Outcomes.{tick-asked, claims-room, tick-settles, tick-answers}
+use Rattle.machine.proofs.Owing.{array-due, array-room}
+use Rattle.machine.proofs.Sized.{reporting-size}
 use Rattle.machine.proofs.reporting.Reporting.tick.Statement.{statement}
 use Rattle.machine.proofs.reporting.Reporting.tick.Tie as tie
 
@@ -47,22 +53,51 @@ known c = facts (tick-asked (came c .pre) .formed)
 next-number : (c : tie.After-wake) → number c ≡ suc (came c .args .self .machine .tick .0)
 next-number c = omega (arith, c .before .before .before .next .ensures)
 
+-- what is due, and what of it stays
+
+abbrev owed-before : tie.After-wake → List records.Report
+owed-before c = shown (came c .args .self) .due
+
+claimed : (c : tie.After-wake) → (let s = came c .args .self in claims (shown s) ≤ s .machine .plan .threads + 9)
+claimed c = claims-room (came c .pre .asks)
+
+array-requires : tie.Need-array-requires
+array-requires c κs = tt
+
+without-switch-requires : tie.Need-without-switch-requires
+without-switch-requires c κs = λ h.
+    let s = came (c .before) in
+    let x = s .args .self in
+    let same = ap (λ (rs : Reports). rs .count) (c .array .ensures) in
+    omega (arith, same, array-room x (s .pre .asks .formed') (s .pre .asks .stands .apart') (reporting-size x (s .good .0)) (omega (arith, h, same)))
+
+kept-is : (c : tie.After-without-switch) → owed (c .without-switch .result) ≡ withoutSwitch (owed-before (c .before .before))
+kept-is c =
+    let s = came (c .before .before) in
+    let x = s .args .self in
+    c .without-switch .ensures ∙ ap (λ (rs : Reports). withoutSwitch (drop (x .given) (owed rs))) (c .before .array .ensures) ∙ array-due x (s .pre .asks .stands .apart')
+
 expired-requires : tie.Need-expired-requires
-expired-requires c κs = omega (arith, next-number c)
+expired-requires c κs =
+    let w = c .before .before in
+    (omega (arith, next-number w), expire-room (known w) (number w) (w .wake .ensures) (owed-before w) (claimed w) (next-number w) (c .without-switch .result) (kept-is c))
 
 readied-requires : tie.Need-readied-requires
-readied-requires c κs = let w = c .before in ready-room (known w) (number w) (w .wake .ensures) (c .expired .result) (c .expired .ensures)
+readied-requires c κs =
+    let k = c .before in
+    let w = k .before .before in
+    ready-room (known w) (number w) (w .wake .ensures) (owed-before w) (claimed w) (next-number w) (k .without-switch .result) (kept-is k) (c .expired .result) (c .expired .ensures)
 
 moved-on-requires : tie.Need-moved-on-requires
-moved-on-requires c κs = let w = c .before .before in (omega (arith, next-number w), omega (arith, next-number w, tick-asked (came w .pre) .room))
+moved-on-requires c κs = let w = c .before .before .before .before in (omega (arith, next-number w), omega (arith, next-number w, tick-asked (came w .pre) .room))
 
 next-event-requires : tie.Need-next-event-requires
-next-event-requires c κs = let w = c .before .before .before in asleep-fit (known w) (number w) (w .wake .ensures)
+next-event-requires c κs = let w = c .before .before .before .before .before in asleep-fit (known w) (number w) (w .wake .ensures)
 
 -- what is left before the Switch
 
 abbrev woke : tie.After-moved-on → tie.After-wake
-woke c = c .before .before .before
+woke c = c .before .before .before .before .before
 
 abbrev ticked : tie.After-moved-on → Machine
 ticked c =
@@ -71,33 +106,46 @@ ticked c =
     let r = w .wake .result in
     record { plan = m .plan; tick = w .before .before .before .next .result; slots = r .slots; wakes = m .wakes; queue = r .queue; holds = m .holds; waits = m .waits; delays = r .delays; reported = m .reported; timers = c .moved-on .result }
 
-made : (c : tie.After-moved-on) → Makes (ticked c) (c .before .readied .result) 0 (came (woke c) .args .self .machine) records.Tick
+-- what stays, behind it the Expires, behind them the Readys
+due : (c : tie.After-moved-on)
+    → (let w = woke c in let n = number w in let old = owed-before w in let m = came w .args .self .machine in
+    owed (c .before .readied .result) ≡ withoutSwitch old ++ (map Expire (expired n old (idle m .timers)) ++ map Ready (sleepers n (idle m))))
+due c =
+    let x = c .before .before in
+    let k = x .before in
+    let w = woke c in
+    let n = number w in
+    let m = came w .args .self .machine in
+    let e = w .wake .ensures in
+    let ended = kept-expired (known w) n e (owed-before w) (claimed w) (next-number w) (k .without-switch .result) (kept-is k) in
+    c .before .readied .ensures
+    ∙ ap₂ (λ a b. a ++ map Ready b) (x .expired .ensures ∙ ap₂ (λ a b. a ++ map Expire b) (kept-is k) ended) (e .woken' ∙ woken-are (known w) n)
+    ∙ append-assoc (withoutSwitch (owed-before w)) (map Expire (expired n (owed-before w) (idle m .timers))) (map Ready (sleepers n (idle m)))
+
+made : (c : tie.After-moved-on) → (let s = came (woke c) .args .self in MakesOf (shown s) (ticked c) (c .before .readied .result) 0 (s .machine) records.Tick)
 unfolding tick
 made c =
     let w = woke c in
-    let m = came w .args .self .machine in
+    let s = came w .args .self in
+    let m = s .machine in
     let n = number w in
     let z = next-number w in
     let e = w .wake .ensures in
     let up = woken-are (known w) n in
     let conditions = ap (λ s. conditionsOf (m .plan .threads) s (m .wakes)) (e .slots') ∙ placed-ready (m .plan .threads) (m .wakes) (filter (wakesAt (m .wakes) n) (queued (m .delays))) (m .slots) ∙ ap (λ l. allReady l (idle m .conditions)) up in
-    let due = c .before .readied .ensures ∙ ap₂ (λ a b. a ++ map Ready b) (c .before .before .expired .ensures) (e .woken' ∙ up) in
-    admits (tick-rule (tick-asked (came w .pre))) refl refl refl refl
-    (record {
-      plan' = refl;
-      seen =
-          alike z
-          (conditions ∙ ap (λ k. allReady (sleepers k (idle m)) (idle m .conditions)) z)
-          (e .queue' ∙ ap (λ l. queued (m .queue) ++ l) up ∙ ap (λ k. queued (m .queue) ++ sleepers k (idle m)) z)
-          refl refl
-          (e .delays' ∙ asleep-are (known w) n ∙ ap (λ k. stillAsleep k (idle m)) z)
-          refl
-          (due ∙ ap (λ k. map Expire (expired k (idle m .timers)) ++ map Ready (sleepers k (idle m))) z)
-          (c .moved-on .ensures ∙ ap (λ k. moveOn k (idle m .timers)) z);
-    })
+    let seen =
+    alike z
+    (conditions ∙ ap (λ k. allReady (sleepers k (idle m)) (idle m .conditions)) z)
+    (e .queue' ∙ ap (λ l. queued (m .queue) ++ l) up ∙ ap (λ k. queued (m .queue) ++ sleepers k (idle m)) z)
+    refl refl
+    (e .delays' ∙ asleep-are (known w) n ∙ ap (λ k. stillAsleep k (idle m)) z)
+    refl
+    (due c ∙ ap (λ k. withoutSwitch (shown s .due) ++ (map Expire (expired k (shown s .due) (idle m .timers)) ++ map Ready (sleepers k (idle m)))) z)
+    (c .moved-on .ensures ∙ ap (λ k. moveOn k (idle m .timers)) z) in
+    record { plan' = refl; rule' = tick-rule (tick-asked (came w .pre)) (shown s .due); made = λ q. seen; kept = λ d. absurd (d refl) }
 
 chosen-requires : tie.Need-chosen-requires
-chosen-requires c κs = let l = c .before .before .before .before .before in call-settles (came (woke l) .pre) (made l) .chooses
+chosen-requires c κs = let l = c .before .before .before .before .before in tick-settles (came (woke l) .pre) (made l) .chooses
 
 telling-requires : tie.Need-telling-requires
 telling-requires c κs = tt
@@ -105,7 +153,7 @@ telling-requires c κs = tt
 owing-requires : tie.Need-owing-requires
 owing-requires c κs =
     let l = c .before .before .before .before .before .before .before in
-    omega (arith, ap (λ (rs : Reports). rs .count) (c .telling .ensures), call-settles (came (woke l) .pre) (made l) .room)
+    omega (arith, ap (λ (rs : Reports). rs .count) (c .telling .ensures), tick-settles (came (woke l) .pre) (made l) .room)
 
 -- what happens next was asked of the machine as it is now
 returns : tie.Need-returns
@@ -118,7 +166,7 @@ returns c =
     let s = came (woke l) in
     let is = c .owing .ensures ∙ ap (λ (rs : Reports). owing m rs 0 (h .chosen .result) (q .next-event .result)) (t .telling .ensures) in
     subst (λ (x : Reporting). Called x (s .args .self) records.Tick) (sym is)
-    (record { answers = call-answers (s .pre) (made l) (h .chosen .ensures) (subst (Quiet m) (sym (q .next-event .ensures)) (next-quiet m (tick-sleeps (known (woke l)) (made l)))); quiet' = q .next-event .ensures })
+    (record { answers = tick-answers (s .pre) (made l) (h .chosen .ensures) (subst (Quiet m) (sym (q .next-event .ensures)) (next-quiet m (tick-sleeps (known (woke l)) (made l)))); quiet' = q .next-event .ensures })
 
 pub tick-spec : {M : Type 1} → statement M
-tick-spec = tie.close (tie.spec next-requires wake-requires expired-requires readied-requires moved-on-requires next-event-requires chosen-requires telling-requires owing-requires returns)
+tick-spec = tie.close (tie.spec next-requires wake-requires array-requires without-switch-requires expired-requires readied-requires moved-on-requires next-event-requires chosen-requires telling-requires owing-requires returns)

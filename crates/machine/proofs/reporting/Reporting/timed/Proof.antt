@@ -4,7 +4,7 @@ use native.Mathlib.Omega.{arith}
 use lib.ListN.{getD}
 use mathlib.Core.List.{[], _∷_}
 use Rattle.model.proofs.Loops.{length-listed}
-use Rattle.machine.specs.Lists.{reportOf, noReport}
+use Rattle.due.specs.Lists.{reportOf, noReport}
 use Rattle.machine.specs.View.{reportsIn}
 use Rattle.machine.proofs.Meets.{owed-count}
 use Rattle.machine.proofs.Timed.{sets, timer-answers}

@@ -10,17 +10,17 @@ use Rattle.model.specs.Records.{operandThread}
 use Rattle.model.specs.State.{switchedTo}
 use Rattle.model.proofs.Laws.{well-formed}
 use Rattle.plan.proofs.Laws.{threads-view, valid-fits}
-use Rattle.machine.specs.declared.reports.Report.{Report}
+use Rattle.due.specs.declared.reports.Report.{Report}
 use Rattle.machine.specs.declared.Machine.{Machine}
 use Rattle.machine.specs.declared.state.State.{State}
-use Rattle.machine.specs.Lists.{threadOf, reportOf, owed}
+use Rattle.due.specs.Lists.{threadOf, reportOf, owed}
 use Rattle.machine.specs.View.{planOf, viewed, view}
 use Rattle.machine.specs.Contracts.{Owes, FirstDue, Delivers}
 use Rattle.machine.proofs.Sized.{due-size}
 use Rattle.machine.proofs.Views.{sized}
 use Rattle.machine.proofs.Meets.{alike}
-use Rattle.machine.proofs.ReportKinds.{switches, switches-not, names-one}
-use Rattle.machine.proofs.Owing.{drop-next, due-fits, owing}
+use Rattle.due.proofs.Laws.{switches, switches-not, names-one, drop-next}
+use Rattle.machine.proofs.Owing.{due-fits, owing}
 use Rattle.machine.proofs.state.State.delivered.Statement.{statement}
 use Rattle.machine.proofs.state.State.delivered.Tie as tie
 

@@ -2,8 +2,8 @@
 use native.Mathlib.Omega.{arith}
 use borrow.Author.Needs.{needs}
 use lib.ListN.{length-drop}
-use Rattle.machine.specs.Lists.{owed}
-use Rattle.machine.proofs.Views.{length-owed}
+use Rattle.due.specs.Lists.{owed}
+use Rattle.due.proofs.Laws.{length-owed}
 use Rattle.machine.proofs.state.State.due_count.Statement.{statement}
 use Rattle.machine.proofs.state.State.due_count.Tie as tie
 

@@ -4,12 +4,13 @@ use mathlib.Core.List.{_∷_, tail}
 use Prim.Native.Nat.{ℕ, _<_}
 use native.Mathlib.Omega.{arith}
 use lib.ListN.{length, getD}
-use Rattle.machine.specs.declared.reports.Report.{Report}
+use Rattle.due.specs.declared.reports.Report.{Report}
 use Rattle.machine.specs.declared.state.State.{State}
-use Rattle.machine.specs.Lists.{reportRoom, reportOf, noReport}
+use Rattle.due.specs.Lists.{reportRoom, reportOf, noReport}
 use Rattle.machine.specs.Contracts.{Owes}
 use Rattle.machine.proofs.Sized.{due-size}
-use Rattle.machine.proofs.Owing.{first-due, due-known, due-fits, owing}
+use Rattle.due.proofs.Laws.{first-due}
+use Rattle.machine.proofs.Owing.{due-known, due-fits, owing}
 use Rattle.machine.proofs.state.State.first_due.Statement.{statement}
 use Rattle.machine.proofs.state.State.first_due.Tie as tie
 
