@@ -28,20 +28,24 @@
  * nobody runs.
  * Arm, Start and Period, in a row, arm a timer, also one that is armed. With the tick number k: a start above k is the first expiry. At or
  * below k, an alarm is not armed and has lost one; a periodic timer loses the least j for which start + j * period is above k, and expires
- * there. A periodic timer expires again a period later, an alarm is unarmed by its expiry. */
+ * there. A periodic timer expires again a period later, an alarm is unarmed by its expiry.
+ * A Tick may also come between a call and its reports. A Switch still due is dropped, and the thread reported before it counts again as last
+ * reported. Then the Expire and Ready reports of the Tick join the end of what is due, and a Switch is due if the chosen thread differs from
+ * the one last reported. An expiry whose timer is still owed an Expire adds none, though the timer moves on. A delay runs from its Delay
+ * record, whenever the Switch behind it is given. */
 #define BELTCAIRN_KIND_CREATE 1     /* thread below T: it becomes ready at the line's end */
 #define BELTCAIRN_KIND_DELAY 2      /* n, 1 to 65535: the caller sleeps until tick number + n + 1 */
 #define BELTCAIRN_KIND_RELINQUISH 3 /* 0: if another ready thread has the caller's current priority, the caller goes to the line's end */
 #define BELTCAIRN_KIND_END 4        /* 0: the caller becomes dormant */
 #define BELTCAIRN_KIND_TAKE 5       /* section below S: the caller wins if its base priority is above every ceiling held by others */
 #define BELTCAIRN_KIND_GIVE 6       /* section below S: the hold ends, and may pass to a waiting thread */
-#define BELTCAIRN_KIND_TICK 7       /* 0: the tick number grows by one, timers expire and sleepers wake in the order of their Delays */
+#define BELTCAIRN_KIND_TICK 7       /* 0, whatever is due: the tick number grows by one, timers expire, sleepers wake in order of their Delays */
 #define BELTCAIRN_KIND_ARM 8        /* timer below BELTCAIRN_TIMERS: the one to arm; Start and then Period follow at once */
 #define BELTCAIRN_KIND_START 9      /* tick number, 1 to 65535: when the timer is to expire first */
 #define BELTCAIRN_KIND_PERIOD 10    /* the ticks from an expiry to the next, 0 for an alarm; Late is due */
 #define BELTCAIRN_KIND_CANCEL 11    /* timer below BELTCAIRN_TIMERS: it is unarmed */
 
-/* Kinds of reports. The operand of kinds 16 to 20 is the thread concerned, below T. */
+/* Kinds of reports. The operand of kinds 16 to 20 is the thread concerned, below T. No timer is owed two Expires. */
 #define BELTCAIRN_KIND_READY 16  /* it becomes ready, at the line's end */
 #define BELTCAIRN_KIND_SWITCH 17 /* it runs from now on; BELTCAIRN_NOBODY if nobody does */
 #define BELTCAIRN_KIND_WON 18    /* it holds the section that it wanted */
@@ -56,7 +60,7 @@
 /* The timers are 0 to 7. */
 #define BELTCAIRN_TIMERS 8
 
-/* The reports of a call that a watch state has room for: T + 9 with T = 16, the most that are ever due. */
+/* The room of a watch state for the reports due: T + 9 with T = 16, the most that are ever due. */
 #define BELTCAIRN_ROOM 25
 
 /* Nothing was refused, and no rule is broken. */
@@ -79,13 +83,14 @@
  * report or stored rule is none of those here, or a report's operand is not allowed for its kind; the tick number is above 4,000,000,000, a
  * sleeper's above 4,000,065,536 or an expiry above 4,000,065,535; a section is held twice; a thread is listed twice in the line or the waits,
  * or is not in exactly one of its four conditions; the order of Delays does not name each sleeper just once and nobody else; an arming is at a
- * stage above 2; more than T + 9 reports are due; or none is due and the chosen thread (the first in the line of greatest current priority,
- * nobody if the line is empty) is not the one last reported. Asked before 7. */
+ * stage above 2; more than T + 9 reports are due; a Switch due is not last; reports due but a Switch, sleepers, armed timers owed no Expire, and
+ * one together pass T + 9; or none is due and the chosen thread (the first in the line of greatest current priority, nobody if the line is
+ * empty) is not the one last reported. Asked before 7. */
 #define BELTCAIRN_REFUSED_STATE 12
 #define BELTCAIRN_REFUSED_TICK 13 /* (step) Is it no Tick at tick number 4,000,000,000? Asked after 8. */
 
 /* The rule that a record breaks: the first that has the answer No. 31 is asked before all others, 32 behind them. */
-#define BELTCAIRN_BREACH_REPORT_DUE 21     /* (calls) Is nothing due? */
+#define BELTCAIRN_BREACH_REPORT_DUE 21     /* (calls other than Tick) Is nothing due? */
 #define BELTCAIRN_BREACH_NOBODY_RUNS 22    /* (kinds 2 to 6 and 8 to 11) Does a thread run? */
 #define BELTCAIRN_BREACH_NOT_DORMANT 23    /* (Create) Is the thread dormant? */
 #define BELTCAIRN_BREACH_HOLDS_SECTION 24  /* (Delay, End) Does the caller hold no section? */
@@ -175,10 +180,11 @@ struct beltcairn_machine {
     struct beltcairn_timers timers; /* offset 228 */
 };
 
-/* The machine and its reports. 400 bytes. */
+/* The machine and its reports. 400 bytes. The reports of a call other than Tick, which comes with nothing due, take the place of those before.
+ * A Tick moves those still due to the front, and what it adds joins the end. */
 struct beltcairn_state {
     struct beltcairn_machine machine; /* offset   0 */
-    struct beltcairn_reports due;     /* offset 280: the reports of the latest call, in order */
+    struct beltcairn_reports due;     /* offset 280: reports, in order */
     size_t given;                     /* offset 392: how many of them were given; those behind are due */
 };
 

@@ -1,6 +1,7 @@
 /* Calls every function of the library as a C program does, and holds the answers and the layout to what documents 01 and 02 and the header
  * state. */
 #include "expect.h"
+#include "interrupt_runs.h"
 #include "runs.h"
 #include "timer_runs.h"
 
@@ -112,7 +113,7 @@ static void check_steps(const struct Run *run)
     }
 }
 
-/* The calls of a clean run with nothing due make its dump again, and no byte behind it changes. */
+/* The calls of a clean run with nothing due, each made with nothing due, make its dump again, and no byte behind it changes. */
 static void check_bench(const struct Run *run)
 {
     static uint8_t dump[ROOM], list[ROOM], out[ROOM];
@@ -147,6 +148,70 @@ static void check_run(const struct Run *run)
     check_steps(run);
     if (run->answer == 0 && run->due == 0 && !ends_inside_arming(run)) {
         check_bench(run);
+    }
+}
+
+static int somebody_sleeps(const struct Run *run)
+{
+    size_t i = 0;
+    while (i < run->at && run->records[i].kind != DELAY) {
+        i++;
+    }
+    return i < run->at;
+}
+
+/* A run in which nobody sleeps and no timer is armed, with a Tick behind each record. A Tick then adds nothing, and makes the Switch due again
+ * that it drops: the verdict is that of the run, at a record twice as far. */
+static void check_with_ticks(const struct Run *run)
+{
+    struct Run ticked = *run;
+    for (size_t i = 0; i < run->count; i++) {
+        ticked.records[2 * i] = run->records[i];
+        ticked.records[2 * i + 1] = (struct Record){TICK, 0};
+    }
+    ticked.count = 2 * run->count;
+    ticked.at = 2 * run->at;
+    check_whole(&ticked);
+    check_steps(&ticked);
+}
+
+static void add_ticks(struct Run *run, size_t n)
+{
+    while (n-- > 0) {
+        run->records[run->count++] = (struct Record){TICK, 0};
+    }
+}
+
+/* The bench kernel gives every report before its next call: of the same calls it makes the dump whose Ticks stand behind the reports. */
+static void check_bench_with_ticks(const struct Run *run)
+{
+    struct Run rested = *run;
+    size_t ticks = 0;
+    rested.count = 0;
+    for (size_t i = 0; i < run->count; i++, ticks++) {
+        if (run->records[i].kind < READY) {
+            add_ticks(&rested, ticks), ticks = 0;
+        }
+        rested.records[rested.count++] = run->records[i];
+    }
+    add_ticks(&rested, ticks);
+    rested.at = rested.count;
+    check_run(&rested);
+}
+
+/* Ticks between a call and its reports: the runs of item 4, and known runs with many Ticks. */
+static void check_interrupt_runs(void)
+{
+    for (size_t i = 0; i < sizeof interrupt_runs / sizeof interrupt_runs[0]; i++) {
+        check_whole(&interrupt_runs[i]), check_steps(&interrupt_runs[i]);
+    }
+    for (size_t i = 0; i < sizeof runs / sizeof runs[0]; i++) {
+        if (!somebody_sleeps(&runs[i])) {
+            check_with_ticks(&runs[i]);
+        }
+        if (!somebody_sleeps(&runs[i]) && runs[i].answer == 0 && runs[i].due == 0) {
+            check_bench_with_ticks(&runs[i]);
+        }
     }
 }
 
@@ -266,6 +331,7 @@ int main(void)
     }
     struct Run p12 = run_p12();
     check_run(&p12);
+    check_interrupt_runs();
     refused_plans();
     refused_dumps_and_lists();
     refused_timer_records();
@@ -273,6 +339,8 @@ int main(void)
     check_layout();
     check_timers();
     check_delays();
+    check_interrupts();
+    check_claims();
     printf("%d passed, %d failed\n", passed, failed);
     return failed > 0;
 }

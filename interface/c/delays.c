@@ -1,14 +1,12 @@
 /* The order of Delays and the thread reported in the watch state: as the library writes them, and as it reads them from states made here. */
 #include "expect.h"
 
-/* Create, Ready and Switch of a thread that is to run at once. */
-static void start(struct beltcairn_watch *watch, uint16_t thread)
+void start(struct beltcairn_watch *watch, uint16_t thread)
 {
     step(watch, CREATE, thread, 2), step(watch, READY, thread, 1), step(watch, SWITCH, thread, 0);
 }
 
-/* The Delay of the running thread, and the Switch behind it. */
-static void delay(struct beltcairn_watch *watch, uint16_t ticks, uint16_t next)
+void delay(struct beltcairn_watch *watch, uint16_t ticks, uint16_t next)
 {
     step(watch, DELAY, ticks, 1), step(watch, SWITCH, next, 0);
 }
@@ -155,19 +153,23 @@ static void reported_with_nothing_due(void)
     }
 }
 
-/* With a report due any thread may be the one reported. Once it is given, the state is asked again. */
+/* With a report due any thread may be the one reported; a Tick makes a Switch due to the chosen one. Once the report is given, the state is
+ * asked again. */
 static void reported_with_a_report_due(void)
 {
     for (unsigned reported = 0; reported < 256; reported++) {
-        struct beltcairn_watch watch = made_owing(LATE, 0);
+        struct beltcairn_watch watch = made_owing(LATE, 0), ticked;
         watch.state.machine.reported = (uint8_t)reported;
         if (reported >= 3 && reported != NOBODY_REPORTED) {
             refused_step(watch, BELTCAIRN_REFUSED_STATE, LATE, 0);
             continue;
         }
-        breaks(&watch, BELTCAIRN_BREACH_REPORT_DUE, TICK, 0);
+        breaks(&watch, BELTCAIRN_BREACH_REPORT_DUE, RELINQUISH, 0);
+        ticked = watch;
+        step(&ticked, TICK, 0, reported == 0 ? 1 : 2);
+        EXPECT("reported", owes(&ticked.state, 0, LATE, 0) && owes(&ticked.state, 1, SWITCH, 0) == (reported != 0));
         step(&watch, LATE, 0, 0);
-        EXPECT("reported", watch.state.machine.reported == reported);
+        EXPECT("reported", watch.state.machine.reported == reported && ticked.state.machine.reported == reported);
         if (reported == 0) {
             step(&watch, TICK, 0, 0);
         } else {

@@ -1,4 +1,4 @@
-/* What calls.c, layout.c, timers.c and delays.c share. */
+/* What the files of the C program share. */
 #ifndef EXPECT_H
 #define EXPECT_H
 
@@ -49,6 +49,19 @@ void refused_step(struct beltcairn_watch watch, uint8_t answer, uint8_t kind, ui
 /* A record that breaks this rule; nothing but `rule` changes, which is then as it was again. */
 void breaks(struct beltcairn_watch *watch, uint8_t rule, uint8_t kind, uint16_t operand);
 
+/* Create, Ready and Switch of a thread that is to run at once. */
+void start(struct beltcairn_watch *watch, uint16_t thread);
+
+/* The Delay of the running thread, and the Switch behind it. */
+void delay(struct beltcairn_watch *watch, uint16_t ticks, uint16_t next);
+
+/* Arm, Start and Period, and the Late behind them. */
+void arm(struct beltcairn_watch *watch, uint16_t timer, uint16_t from, uint16_t period, uint16_t late);
+
+int is_armed(const struct beltcairn_watch *watch, size_t timer, uint32_t expiry, uint16_t period);
+
+int is_unarmed(const struct beltcairn_watch *watch, size_t timer);
+
 /* Entry i of a word, from 0. */
 uint64_t entry(uint64_t word, size_t i);
 
@@ -57,6 +70,12 @@ int lists(const struct beltcairn_queue *queue, size_t count, uint64_t named);
 
 /* Whether report i of those due, from 0, is this one. */
 int owes(const struct beltcairn_state *state, size_t i, uint8_t kind, uint16_t operand);
+
+/* Whether these reports are due, in this order, and no others; one of kind 0 ends them. */
+int owes_just(const struct beltcairn_state *state, const struct beltcairn_report *reports);
+
+/* The watch state of a plan of so many bytes. */
+struct beltcairn_watch begun(const uint8_t *plan, size_t len);
 
 /* The watch state of 16 threads and 16 sections: thread i has priority i + 1 and needs section i. */
 struct beltcairn_watch largest(void);
@@ -75,5 +94,11 @@ void check_timers(void);
 
 /* delays.c: the same for the order of Delays and the thread reported. */
 void check_delays(void);
+
+/* interrupts.c: Ticks between a call and its reports. */
+void check_interrupts(void);
+
+/* claims.c: where a Switch due stands, and what has a claim on the room for reports. */
+void check_claims(void);
 
 #endif

@@ -63,6 +63,15 @@ int owes(const struct beltcairn_state *state, size_t i, uint8_t kind, uint16_t o
     return state->given + i < state->due.count && report->kind == kind && report->operand == operand;
 }
 
+int owes_just(const struct beltcairn_state *state, const struct beltcairn_report *reports)
+{
+    size_t n = 0;
+    while (reports[n].kind != 0 && owes(state, n, reports[n].kind, reports[n].operand)) {
+        n++;
+    }
+    return reports[n].kind == 0 && (n == 0 ? state->given >= state->due.count : state->given + n == state->due.count);
+}
+
 static int is_in(const struct beltcairn_machine *m, size_t thread, uint8_t state)
 {
     return entry(m->slots.states, thread) == state;
@@ -78,17 +87,22 @@ static int waits_for(const struct beltcairn_machine *m, size_t thread, uint8_t s
     return is_in(m, thread, WAITING) && entry(m->slots.wants, thread) == section;
 }
 
+struct beltcairn_watch begun(const uint8_t *plan, size_t len)
+{
+    struct beltcairn_watch watch;
+    memset(&watch, 0xaa, sizeof watch);
+    EXPECT("begun", beltcairn_begin(plan, len, &watch) == 0);
+    return watch;
+}
+
 struct beltcairn_watch largest(void)
 {
     uint8_t plan[50] = {16, 16};
-    struct beltcairn_watch watch;
-    memset(&watch, 0xaa, sizeof watch);
     for (int i = 0; i < 16; i++) {
         plan[2 + i] = (uint8_t)(i + 1);
         plan[18 + 2 * i + i / 8] = (uint8_t)(1 << i % 8);
     }
-    EXPECT("largest plan", beltcairn_begin(plan, sizeof plan, &watch) == 0);
-    return watch;
+    return begun(plan, sizeof plan);
 }
 
 static void largest_plan(void)
@@ -116,7 +130,7 @@ static void all_threads_in_the_line(void)
     struct beltcairn_watch watch = largest();
     const struct beltcairn_machine *m = &watch.state.machine;
     for (uint16_t i = 0; i < 16; i++) {
-        step(&watch, CREATE, i, 2), step(&watch, READY, i, 1), step(&watch, SWITCH, i, 0);
+        start(&watch, i);
     }
     EXPECT("all threads", m->queue.items == 0xfedcba9876543210u && m->queue.count == 16 && m->slots.states == 0x1111111111111111u);
     step(&watch, END, 0, 1);
@@ -127,11 +141,9 @@ static void all_threads_in_the_line(void)
 static void all_sections_held(void)
 {
     static const uint8_t plan[5] = {1, 16, 1, 0xff, 0xff};
-    struct beltcairn_watch watch;
+    struct beltcairn_watch watch = begun(plan, sizeof plan);
     const struct beltcairn_holds *held = &watch.state.machine.holds;
-    memset(&watch, 0, sizeof watch);
-    EXPECT("all sections", beltcairn_begin(plan, sizeof plan, &watch) == 0);
-    step(&watch, CREATE, 0, 2), step(&watch, READY, 0, 1), step(&watch, SWITCH, 0, 0);
+    start(&watch, 0);
     for (uint16_t i = 0; i < 16; i++) {
         step(&watch, TAKE, i, 1), step(&watch, WON, 0, 0);
     }
@@ -144,15 +156,13 @@ static void all_sections_held(void)
 static void states_of_run_a(void)
 {
     static const uint8_t plan[11] = {3, 1, 1, 2, 3, 1, 0, 0, 0, 1, 0};
-    struct beltcairn_watch watch;
+    struct beltcairn_watch watch = begun(plan, sizeof plan);
     const struct beltcairn_machine *m = &watch.state.machine;
-    memset(&watch, 0, sizeof watch);
-    EXPECT("run A", beltcairn_begin(plan, sizeof plan, &watch) == 0);
     EXPECT("run A", m->plan.threads == 3 && m->plan.sections == 1 && memcmp(m->plan.bases, plan + 2, 3) == 0);
     EXPECT("run A", m->plan.needs[0] == 1 && m->plan.needs[1] == 0 && m->plan.needs[2] == 1);
-    step(&watch, CREATE, 0, 2), step(&watch, READY, 0, 1), step(&watch, SWITCH, 0, 0);
+    start(&watch, 0);
     step(&watch, TAKE, 0, 1), step(&watch, WON, 0, 0);
-    step(&watch, CREATE, 2, 2), step(&watch, READY, 2, 1), step(&watch, SWITCH, 2, 0);
+    start(&watch, 2);
     step(&watch, TAKE, 0, 2), step(&watch, LOST, 2, 1);
     EXPECT("run A", lists(&m->queue, 1, 0x0) && lists(&m->waits, 1, 0x2) && m->holds.count == 1 && holds(&m->holds, 0, 0, 0));
     EXPECT("run A", is_in(m, 0, IS_READY) && is_in(m, 1, DORMANT) && waits_for(m, 2, 0));
@@ -168,12 +178,10 @@ static void states_of_run_a(void)
 static void states_of_one_thread(void)
 {
     static const uint8_t plan[5] = {1, 2, 1, 3, 0};
-    struct beltcairn_watch watch;
+    struct beltcairn_watch watch = begun(plan, sizeof plan);
     const struct beltcairn_machine *m = &watch.state.machine;
     uint64_t due = KEPT;
-    memset(&watch, 0, sizeof watch);
-    EXPECT("one thread", beltcairn_begin(plan, sizeof plan, &watch) == 0);
-    step(&watch, CREATE, 0, 2), step(&watch, READY, 0, 1), step(&watch, SWITCH, 0, 0);
+    start(&watch, 0);
     step(&watch, TAKE, 0, 1), step(&watch, WON, 0, 0), step(&watch, TAKE, 1, 1), step(&watch, WON, 0, 0);
     EXPECT("one thread", m->holds.count == 2 && holds(&m->holds, 0, 1, 0) && holds(&m->holds, 1, 0, 0));
     step(&watch, GIVE, 1, 0), step(&watch, GIVE, 0, 0), step(&watch, DELAY, 300, 1);

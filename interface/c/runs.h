@@ -1,5 +1,5 @@
-/* The known runs of document 01, typed from its text: plan, records, and the verdict that it states. P14 is that of document 02's
- * item 3, which says in words what happens; its records are worked out by hand. */
+/* The known runs of document 01, typed from its text: plan, records, and the verdict that it states. That of P6 is document 02's item 4.
+ * P14 is that of item 3, which says in words what happens; its records are worked out by hand. */
 #ifndef RUNS_H
 #define RUNS_H
 
@@ -39,7 +39,7 @@ static const struct Run runs[] = {
     {"P3", ONE_THREAD, 0, 0, 0, 0, {{0, 0}}},
     {"P4", ONE_THREAD, 0, 9, 0, 9, {P4_UP_TO_5, {TICK, 0}, {READY, 0}, {SWITCH, 0}}},
     {"P5", ONE_THREAD, 28, 6, 0, 7, {P4_UP_TO_5, {READY, 0}}},
-    {"P6", ONE_THREAD, 21, 7, 0, 8, {P4_UP_TO_5, {TICK, 0}, {TICK, 0}}},
+    {"P6", ONE_THREAD, 0, 8, 2, 8, {P4_UP_TO_5, {TICK, 0}, {TICK, 0}}},
     {"P7", ONE_THREAD, 0, 4, 0, 4, {STARTED(0), {RELINQUISH, 0}}},
     {"P8", 5, {1, 2, 1, 3, 0}, 27, 7, 0, 8, {STARTED(0), {TAKE, 0}, {WON, 0}, {TAKE, 1}, {WON, 0}, {GIVE, 0}}},
     {"P9", 5, {1, 1, 1, 1, 0}, 24, 5, 0, 6, {STARTED(0), {TAKE, 0}, {WON, 0}, {DELAY, 1}}},

@@ -19,7 +19,7 @@
 static const struct Run timer_runs[] = {
     {"alarm", ONE_THREAD, 0, 11, 0, 11, {ALARM, {EXPIRE, 3}, {TICK, 0}}},
     {"alarm, Expire due", ONE_THREAD, 0, 9, 1, 9, {ALARM}},
-    {"alarm, no Expire", ONE_THREAD, 21, 9, 0, 10, {ALARM, {TICK, 0}}},
+    {"alarm, no Expire", ONE_THREAD, 21, 9, 0, 10, {ALARM, {RELINQUISH, 0}}},
     {"alarm, another timer named", ONE_THREAD, 30, 9, 0, 10, {ALARM, {EXPIRE, 2}}},
     {"alarm, Expire a tick early", ONE_THREAD, 28, 8, 0, 9, {STARTED(0), ARMED(3, 2, 0, 0), {TICK, 0}, {EXPIRE, 3}}},
     {"alarm, unarmed by its expiry", ONE_THREAD, 32, 10, 0, 11, {ALARM, {EXPIRE, 3}, {CANCEL, 3}}},
@@ -42,7 +42,7 @@ static const struct Run timer_runs[] = {
     {"Ready first", ONE_THREAD, 29, 15, 0, 16, {TOGETHER, {READY, 0}}},
     {"higher timer first", ONE_THREAD, 30, 15, 0, 16, {TOGETHER, {EXPIRE, 1}}},
     {"Late due", ONE_THREAD, 0, 6, 1, 6, {STARTED(0), {ARM, 0}, {START, 1}, {PERIOD, 0}}},
-    {"no Late", ONE_THREAD, 21, 6, 0, 7, {STARTED(0), {ARM, 0}, {START, 1}, {PERIOD, 0}, {TICK, 0}}},
+    {"no Late", ONE_THREAD, 21, 6, 0, 7, {STARTED(0), {ARM, 0}, {START, 1}, {PERIOD, 0}, {RELINQUISH, 0}}},
     {"another report than Late", ONE_THREAD, 29, 6, 0, 7, {STARTED(0), {ARM, 0}, {START, 1}, {PERIOD, 0}, {EXPIRE, 0}}},
     {"whole operands are compared", ONE_THREAD, 30, 6, 0, 7, {STARTED(0), ARMED(0, 1, 0, 0x0100)}},
     {"ends behind Arm", ONE_THREAD, 0, 4, 0, 4, {STARTED(0), {ARM, 7}}},

@@ -3,21 +3,20 @@
 
 #include <string.h>
 
-static int is_armed(const struct beltcairn_watch *watch, size_t timer, uint32_t expiry, uint16_t period)
+int is_armed(const struct beltcairn_watch *watch, size_t timer, uint32_t expiry, uint16_t period)
 {
     const struct beltcairn_timers *timers = &watch->state.machine.timers;
     return expiry != 0 && timers->expiries[timer] == expiry && timers->periods[timer] == period;
 }
 
-static int is_unarmed(const struct beltcairn_watch *watch, size_t timer)
+int is_unarmed(const struct beltcairn_watch *watch, size_t timer)
 {
     return watch->state.machine.timers.expiries[timer] == 0;
 }
 
-/* Arm, Start, Period and the Late behind them. */
-static void arm(struct beltcairn_watch *watch, uint16_t timer, uint16_t start, uint16_t period, uint16_t late)
+void arm(struct beltcairn_watch *watch, uint16_t timer, uint16_t from, uint16_t period, uint16_t late)
 {
-    step(watch, ARM, timer, 0), step(watch, START, start, 0), step(watch, PERIOD, period, 1);
+    step(watch, ARM, timer, 0), step(watch, START, from, 0), step(watch, PERIOD, period, 1);
     EXPECT("arm", owes(&watch->state, 0, LATE, late));
     step(watch, LATE, late, 0);
 }
@@ -45,7 +44,7 @@ static void states_of_an_arming(void)
 {
     struct beltcairn_watch watch = largest();
     const struct beltcairn_arming *arming = &watch.state.machine.timers.arming;
-    step(&watch, CREATE, 0, 2), step(&watch, READY, 0, 1), step(&watch, SWITCH, 0, 0);
+    start(&watch, 0);
     for (size_t timer = 0; timer < BELTCAIRN_TIMERS; timer++) {
         EXPECT("arming", is_unarmed(&watch, timer));
     }
@@ -70,14 +69,13 @@ static void states_of_an_arming(void)
 static void most_reports(void)
 {
     struct beltcairn_watch watch = largest();
-    step(&watch, CREATE, 0, 2), step(&watch, READY, 0, 1), step(&watch, SWITCH, 0, 0);
+    start(&watch, 0);
     for (uint16_t timer = 0; timer < BELTCAIRN_TIMERS; timer++) {
         arm(&watch, timer, 2, timer % 2 == 0 ? 0 : 100, 0);
     }
-    step(&watch, DELAY, 1, 1), step(&watch, SWITCH, BELTCAIRN_NOBODY, 0);
+    delay(&watch, 1, BELTCAIRN_NOBODY);
     for (uint16_t thread = 1; thread < 16; thread++) {
-        step(&watch, CREATE, thread, 2), step(&watch, READY, thread, 1), step(&watch, SWITCH, thread, 0);
-        step(&watch, DELAY, 1, 1), step(&watch, SWITCH, BELTCAIRN_NOBODY, 0);
+        start(&watch, thread), delay(&watch, 1, BELTCAIRN_NOBODY);
     }
     step(&watch, TICK, 0, 0), step(&watch, TICK, 0, BELTCAIRN_ROOM);
     EXPECT("most reports", watch.state.due.count == BELTCAIRN_ROOM && watch.state.given == 0 && owes(&watch.state, 24, SWITCH, 15));
@@ -142,7 +140,8 @@ static void lent_timers(void)
     breaks(&watch, BELTCAIRN_BREACH_NOT_ARMED, CANCEL, 1);
 }
 
-/* An arming in progress: from 0 by 3 at tick number 7, where 0, 3 and 6 are lost. Then one with a report due: 31 is asked before 21. */
+/* An arming in progress: from 0 by 3 at tick number 7, where 0, 3 and 6 are lost. Then one with a report due: 31 is asked before 21, and of a
+ * Tick too. */
 static void lent_armings(void)
 {
     struct beltcairn_watch watch = made();
@@ -158,6 +157,7 @@ static void lent_armings(void)
     watch.state.due.items[0].kind = LATE;
     watch.state.due.count = 1;
     breaks(&watch, BELTCAIRN_BREACH_ARMING_ORDER, LATE, 0);
+    breaks(&watch, BELTCAIRN_BREACH_ARMING_ORDER, TICK, 0);
     breaks(&watch, BELTCAIRN_BREACH_REPORT_DUE, START, 1);
 }
 
@@ -197,10 +197,12 @@ static void lent_reports(void)
     }
 }
 
-/* `made` with T + 9 reports due, and with one more. */
+/* `made` with nobody asleep and T + 9 reports due, of which the last is a Switch; and with one more. */
 static void lent_most_reports(void)
 {
     struct beltcairn_watch watch = made_owing(LATE, 0);
+    watch.state.machine.slots.states = IS_READY | DORMANT << 4 | WAITING << 8;
+    watch.state.machine.delays.count = 0;
     for (size_t i = 0; i < BELTCAIRN_ROOM; i++) {
         watch.state.due.items[i] = watch.state.due.items[0];
     }
@@ -209,6 +211,7 @@ static void lent_most_reports(void)
         twelve.state.given = thirteen.state.given = given;
         twelve.state.due.count = given + 12;
         thirteen.state.due.count = given + 13;
+        twelve.state.due.items[given + 11].kind = thirteen.state.due.items[given + 12].kind = SWITCH;
         step(&twelve, LATE, 0, 11);
         refused_step(thirteen, BELTCAIRN_REFUSED_STATE, LATE, 0);
     }

@@ -2,7 +2,7 @@
 ghost use mathlib.Core.List.{[], _∷_};
 ghost use Prim.Native.Nat.{min};
 ghost use Rattle.model.specs.Records.{Ready, Won, Late};
-ghost use Rattle.due.specs.Lists.{reportOf, Tells};
+ghost use Rattle.due.specs.Lists.{reportBy, Tells};
 use crate::reports::Report;
 
 // What a call other than Tick makes due before its Switch: the first `count` of two reports.
@@ -24,7 +24,7 @@ impl Made {
     }
 
     pub fn one(kind: u8, who: u8) -> Made
-        ensures { λ r. ⌜ Tells r (reportOf (record { kind = kind; spare = 0; operand = who }) ∷ []) ⌝ }
+        ensures { λ r. ⌜ Tells r (reportBy kind who ∷ []) ⌝ }
     {
         Made {
             first: Report::of(kind, who),

@@ -2,13 +2,12 @@
 ghost use mathlib.Core.Path.{_≡_};
 ghost use mathlib.Core.List.{[], _++_, map};
 ghost use Prim.Native.Nat.{_+_, _≤_, _<_};
-ghost use lib.ListN.{length, drop};
-ghost use Rattle.model.specs.Records.{Ready, Expire};
+ghost use lib.ListN.{drop};
 ghost use Rattle.model.specs.Timers as model;
 ghost use Rattle.model.specs.State.{withoutSwitch};
 ghost use Rattle.lists.specs.Lists.{queued};
 ghost use Rattle.clock.specs.View as timing;
-ghost use Rattle.due.specs.Lists.{reportRoom, switchTo, owed};
+ghost use Rattle.due.specs.Lists.{reportRoom, switchTo, reportBy, owed, TickFits, afterTick};
 use clock::time::Tick;
 use clock::timers::TIMERS;
 use clock::timers::Timers;
@@ -86,14 +85,31 @@ impl Reports {
         false
     }
 
-    // Those behind the first `given` but a Switch, moved to the front.
-    pub fn without_switch(self, given: usize) -> Reports
+    // The timers whose tick number this is and of which no Expire is due, lower timer first, where the first `given` reports are given.
+    fn expired(self, given: usize, timers: Timers, number: Tick) -> Queue
+        requires { ⌜ (0 < number .0) × (given < self .count → self .count ≤ reportRoom) ⌝ }
+        ensures { λ r. ⌜ queued r ≡ model.expired (number .0) (drop given (owed self)) (timing.view timers) ⌝ }
+    {
+        let mut out = Queue::none();
+        let mut i: usize = 0;
+        while i < TIMERS {
+            if timers.expires(i, number) && !self.owes_expire(given, i as u8) {
+                out = out.push(i as u8);
+            }
+            i += 1;
+        }
+        out
+    }
+
+    // Those behind the first `given` but a Switch, in an array of their own: mostly none is due, and then nothing is read of the old one.
+    fn without_switch(self, given: usize) -> Reports
         requires { ⌜ (given < self .count → self .count ≤ reportRoom) ⌝ }
         ensures { λ r. ⌜ owed r ≡ withoutSwitch (drop given (owed self)) ⌝ }
     {
         let all = self.items;
-        let mut items = self.items;
         let count = self.count;
+        let z = Report::of(0, 0);
+        let mut items = [z; ROOM];
         let mut n: usize = 0;
         let mut i: usize = given;
         while i < count {
@@ -107,43 +123,36 @@ impl Reports {
         Reports { items, count: n }
     }
 
-    // A Ready more at the end for each of these threads.
-    pub fn readied(self, woken: Queue) -> Reports
-        requires { ⌜ (woken .count ≤ 16) × (self .count + woken .count ≤ reportRoom) ⌝ }
-        ensures { λ r. ⌜ owed r ≡ owed self ++ map Ready (queued woken) ⌝ }
+    // A report of this kind more at the end for each of these. Here and above the array is a variable of the loop: in a function that stores one report and
+    // hands the array back, it would be copied for each.
+    fn joined(self, kind: u8, who: Queue) -> Reports
+        requires { ⌜ (who .count ≤ 16) × (self .count + who .count ≤ reportRoom) ⌝ }
+        ensures { λ r. ⌜ owed r ≡ owed self ++ map (reportBy kind) (queued who) ⌝ }
     {
         let mut items = self.items;
         let mut n = self.count;
-        let mut rest = woken.items;
-        let mut left = woken.count;
+        let mut rest = who.items;
+        let mut left = who.count;
         while 0 < left {
             let t = (rest % 16) as u8;
             rest = rest / 16;
             left -= 1;
-            let r = Report::of(16, t);
+            let r = Report::of(kind, t);
             items[n] = r;
             n += 1;
         }
         Reports { items, count: n }
     }
 
-    // An Expire more at the end for each timer whose tick number this is and that is owed none, lower timer first. Here and above the array is a variable
-    // of the loop: in a function that stores one report and hands the array back, it would be copied for each.
-    pub fn expired(self, timers: Timers, number: Tick) -> Reports
-        requires { ⌜ (0 < number .0) × (self .count + length (model.expired (number .0) (owed self) (timing.view timers)) ≤ reportRoom) ⌝ }
-        ensures { λ r. ⌜ owed r ≡ owed self ++ map Expire (model.expired (number .0) (owed self) (timing.view timers)) ⌝ }
+    // What a Tick leaves due before its Switch: those behind the first `given` but a Switch, behind them an Expire for each timer whose tick number this is
+    // and of which none is due, and behind those a Ready for each of the woken.
+    pub fn ticked(self, given: usize, timers: Timers, number: Tick, woken: Queue) -> Reports
+        requires { ⌜ TickFits self given (number .0) (timing.view timers) (woken .count) ⌝ }
+        ensures { λ r. ⌜ owed r ≡ afterTick (drop given (owed self)) (number .0) (timing.view timers) (queued woken) ⌝ }
     {
-        let mut items = self.items;
-        let mut n = self.count;
-        let mut i: usize = 0;
-        while i < TIMERS {
-            if timers.expires(i, number) && !self.owes_expire(0, i as u8) {
-                let r = Report::of(21, i as u8);
-                items[n] = r;
-                n += 1;
-            }
-            i += 1;
-        }
-        Reports { items, count: n }
+        let ended = self.expired(given, timers, number);
+        self.without_switch(given)
+            .joined(21, ended)
+            .joined(16, woken)
     }
 }

@@ -1,9 +1,9 @@
 -- The sleepers at a tick number. The loop over them: what is done so far, and what is left to do, is what a Tick does. Of a well-formed machine those
 -- that wake and those that sleep on are the model's.
-use mathlib.Core.Path.{_≡_, refl, ap, sym, subst, _∙_}
+use mathlib.Core.Path.{_≡_, refl, ap, sym, _∙_}
 use mathlib.Core.Bool.{Bool, true, false, not}
 use mathlib.Core.List.{List, [], _∷_, _++_, map, append-nil, List·Memᴰ as Mem}
-use Prim.Native.Nat.{ℕ, suc, _+_, _≤_, _<_}
+use Prim.Native.Nat.{ℕ, suc, _+_, _≤_}
 use native.Mathlib.Omega.{arith}
 use lib.Dec.{eqb}
 use lib.ListN.{length, length-append, length-map}
@@ -17,7 +17,7 @@ use Rattle.model.specs.Calls.{sleepsUntil, sleepers, stillAsleep, tick}
 use Rattle.model.specs.Formed.{claims}
 use Rattle.model.proofs.Searches.{filter-agree}
 use Rattle.model.proofs.Loops.{filter-few}
-use Rattle.model.proofs.Laws.{tick-claims, expired-without}
+use Rattle.model.proofs.Laws.{tick-claims}
 use Rattle.lists.specs.declared.queue.Queue.{Queue}
 use Rattle.lists.specs.Words.{nibble}
 use Rattle.lists.specs.Lists.{queued}
@@ -27,15 +27,13 @@ use Rattle.clock.specs.View.{numberAt}
 use Rattle.machine.specs.declared.Machine.{Machine}
 use Rattle.machine.specs.declared.slots.Slots.{Slots}
 use Rattle.machine.specs.declared.sleepers.Woken.{Woken}
-use Rattle.due.specs.declared.reports.Reports.{Reports}
-use Rattle.due.specs.Lists.{reportRoom, owed}
+use Rattle.due.specs.Lists.{reportRoom}
 use Rattle.machine.specs.View.{conditionsOf, viewed, idle}
 use Rattle.machine.specs.Contracts.{placed, allPlaced, wakesAt, Wakes}
 use Rattle.machine.proofs.Facts.{Facts}
 use Rattle.machine.proofs.Conditions.{sleeps-at}
 use Rattle.machine.proofs.Views.{condition-at, placed-seen}
 use Rattle.machine.proofs.Room.{delayed-known, delays-fit}
-use Rattle.machine.proofs.Meets.{owed-count}
 
 module _ (wakes : List Tick) (n : ℕ) where
   -- those that wake, and those that sleep on
@@ -118,28 +116,26 @@ module _ {m : Machine} (f : Facts m) (n : ℕ) where
     pub asleep-fit : r .delays .count ≤ 16
     asleep-fit = some-fit (λ t. not (wakesAt (m .wakes) n t)) (r .delays) (w .delays')
 
-    -- what a Tick adds has room behind the reports still due but a Switch, where those with a claim on it find it
-    module _ (due : List records.Report) (room : claims (viewed m due) ≤ m .plan .threads + 9) (tick' : n ≡ suc (m .tick .0)) (kept : Reports) (is : owed kept ≡ withoutSwitch due) where
-      all-fit : length (withoutSwitch due) + length (expired n due (idle m .timers)) + length (sleepers n (idle m)) < reportRoom
-      unfolding tick
-      all-fit =
-          let st = viewed m due in
-          let k = suc (m .tick .0) in
-          let ended = expired k due (idle m .timers) in
-          let woken = sleepers k (idle m) in
-          subst (λ (i : ℕ). length (withoutSwitch due) + length (expired i due (idle m .timers)) + length (sleepers i (idle m)) < reportRoom) (sym tick')
-          (omega (arith, tick-claims st, room, f .fits .threads, length-append (withoutSwitch due) (map Expire ended ++ map Ready woken), length-append (map Expire ended) (map Ready woken), length-map ended Expire, length-map woken Ready))
+    -- the woken fit, and what a Tick adds has room behind the reports still due but a Switch, where those with a claim on it find it
 
-      -- a Switch dropped owes no Expire
-      pub kept-expired : expired n (owed kept) (idle m .timers) ≡ expired n due (idle m .timers)
-      kept-expired = ap (λ l. expired n l (idle m .timers)) is ∙ expired-without n due (idle m .timers)
+    pub woken-fit : r .woken .count ≤ 16
+    woken-fit = some-fit (wakesAt (m .wakes) n) (r .woken) (w .woken')
 
-      pub expire-room : kept .count + length (expired n (owed kept) (idle m .timers)) ≤ reportRoom
-      expire-room = omega (arith, all-fit, owed-count kept is, ap length kept-expired)
-
-      pub ready-room : (rs : Reports) → owed rs ≡ owed kept ++ map Expire (expired n (owed kept) (idle m .timers)) → (r .woken .count ≤ 16) × (rs .count + r .woken .count ≤ reportRoom)
-      ready-room rs e =
-          let ended = expired n (owed kept) (idle m .timers) in (
-            some-fit (wakesAt (m .wakes) n) (r .woken) (w .woken'),
-            omega (arith, all-fit, owed-count rs e, length-append (owed kept) (map Expire ended), length-map ended Expire, ap length is, ap length kept-expired, length-queued (r .woken), ap length (w .woken' ∙ woken-are)),
-          )
+    pub tick-room : (due : List records.Report) → claims (viewed m due) ≤ m .plan .threads + 9 → n ≡ suc (m .tick .0) → length (withoutSwitch due) + length (expired n due (idle m .timers)) + r .woken .count ≤ reportRoom
+    unfolding tick
+    tick-room due room e =
+        let k = suc (m .tick .0) in
+        let outs = expired k due (idle m .timers) in
+        let ups = sleepers k (idle m) in
+        omega (
+          arith,
+          tick-claims (viewed m due),
+          room,
+          f .fits .threads,
+          length-append (withoutSwitch due) (map Expire outs ++ map Ready ups),
+          length-append (map Expire outs) (map Ready ups),
+          length-map outs Expire,
+          length-map ups Ready,
+          ap (λ j. length (expired j due (idle m .timers))) e,
+          sym (length-queued (r .woken)) ∙ ap length (w .woken' ∙ woken-are ∙ ap (λ j. sleepers j (idle m)) e),
+        )

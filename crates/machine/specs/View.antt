@@ -54,7 +54,7 @@ viewed m due =
       timers = timing.view (m .timers);
     }
 
--- with nothing due, as it is at every call
+-- with nothing due, as it is at every call but Tick
 abbrev pub idle : Machine → state.State
 idle m = viewed m []
 
@@ -66,7 +66,7 @@ view s = viewed (s .machine) (drop (s .given) (owed (s .due)))
 abbrev pub reportsIn : Reporting → Reports
 reportsIn c = record { items = c .reports; count = c .count }
 
--- Of a machine with the reports of its latest call: those of the array, and behind them the Switch to the chosen thread, as far as they are due.
+-- Of a machine with its reports: those of the array, and behind them the Switch to the chosen thread, as far as they are due.
 abbrev pub reportAt : Reporting → (place : ℕ) → Report
 reportAt c i = cond (ltb i (c .count)) (getD (c .reports) i noReport) (switchTo (c .chosen))
 

@@ -51,8 +51,7 @@ impl Reporting {
             self.machine.slots,
             self.machine.queue,
         );
-        let kept = self.array().without_switch(self.given);
-        let rs = kept.expired(timers, number).readied(w.woken);
+        let rs = self.array().ticked(self.given, timers, number, w.woken);
         let later = timers.moved_on(number);
         let quiet = next_event(w.delays, wakes, later);
         let mut m = self.machine;

@@ -30,7 +30,8 @@ abbrev pub stillAsleep : (number : ℕ) → State → List ℕ
 stillAsleep n st = filter (λ t. not (sleepsUntil n (condition st t))) (st .delays)
 
 -- Tick (7): the tick number grows by one. Sleepers whose tick number this is become ready, in the order of their Delay calls. Ready due for each.
--- Expire (21, timer) is due at its tick before any Ready, lower timer first. A Switch still due is dropped first: Tick is admitted with reports due.
+-- Expire (21, timer) is due at its tick before any Ready, lower timer first. Tick is admitted with reports due: a Switch still due is dropped, and the
+-- tick's Expire and Ready reports join the end.
 unfoldable pub tick : State → State
 tick st =
     let n = suc (st .tickNumber) in

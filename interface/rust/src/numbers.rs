@@ -12,7 +12,7 @@ pub const NOBODY: u16 = 65535;
 /// The timers are 0 to 7.
 pub const TIMERS: usize = 8;
 
-/// The reports of a call that a watch state has room for: T + 9 with T = 16, the most that are ever due.
+/// The room of a watch state for the reports due: T + 9 with T = 16, the most that are ever due.
 pub const ROOM: usize = 25;
 
 /// What the library answers where nothing was refused and no rule is broken.
@@ -22,7 +22,7 @@ pub const OK: u8 = 0;
 pub mod kind {
     /// Thread below T: it becomes ready at the line's end.
     pub const CREATE: u8 = 1;
-    /// n, 1 to 65535: the caller sleeps until tick number + n + 1.
+    /// n, 1 to 65535: the caller sleeps until tick number + n + 1. A delay runs from this record, whenever the Switch behind it is given.
     pub const DELAY: u8 = 2;
     /// 0: if another ready thread has the caller's current priority, the caller goes to the line's end.
     pub const RELINQUISH: u8 = 3;
@@ -32,7 +32,9 @@ pub mod kind {
     pub const TAKE: u8 = 5;
     /// Section below S: the hold ends, and may pass to a waiting thread.
     pub const GIVE: u8 = 6;
-    /// 0: the tick number grows by one, timers expire and sleepers wake in the order of their Delays.
+    /// 0: the tick number grows by one, timers expire and sleepers wake in the order of their Delays. It may also come between a call and its
+    /// reports: a Switch still due is dropped, and the thread reported before it counts again as last reported; then the Expire and Ready
+    /// reports of the Tick join the end of what is due, and a Switch is due if the chosen thread differs from the one last reported.
     pub const TICK: u8 = 7;
     /// Timer below [`TIMERS`](super::TIMERS): the one to arm, also one that is armed; Start and then Period follow at once.
     pub const ARM: u8 = 8;
@@ -53,7 +55,8 @@ pub mod kind {
     pub const LOST: u8 = 19;
     /// Thread below T: it goes to the line's end.
     pub const YIELD: u8 = 20;
-    /// Timer below [`TIMERS`](super::TIMERS): it expires, before any Ready of the same Tick, lower timer first.
+    /// Timer below [`TIMERS`](super::TIMERS): it expires, before any Ready of the same Tick, lower timer first. An expiry whose timer is still
+    /// owed one adds none, though the timer moves on.
     pub const EXPIRE: u8 = 21;
     /// 0 to 65535, after Period: the expiries that the timer has lost; a greater count is written 65535.
     pub const LATE: u8 = 22;
@@ -91,7 +94,7 @@ pub mod refused {
 
 /// The rule that a record breaks: the first that has the answer No. 31 is asked before all others, 32 behind them.
 pub mod breach {
-    /// (calls) Is nothing due?
+    /// (calls other than Tick) Is nothing due?
     pub const REPORT_DUE: u8 = 21;
     /// (kinds 2 to 6 and 8 to 11) Does a thread run?
     pub const NOBODY_RUNS: u8 = 22;

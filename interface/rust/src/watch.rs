@@ -119,12 +119,15 @@ pub struct Machine {
 }
 
 /// The machine and its reports.
+///
+/// The reports of a call other than Tick, which comes with nothing due, take the place of those before. A Tick moves those still due to the
+/// front, and what it adds joins the end.
 #[repr(C)]
 #[derive(Clone, Copy, Debug, PartialEq, Eq)]
 pub struct State {
     /// The machine.
     pub machine: Machine,
-    /// The reports of the latest call, in order.
+    /// Reports, in order.
     pub due: Reports,
     /// How many of them were given; those behind are due ([`owed`](State::owed)).
     pub given: usize,

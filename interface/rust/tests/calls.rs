@@ -1,19 +1,25 @@
-//! The functions on the known runs and those of sleepers and timers, on what they refuse, and on any bytes.
+//! The functions on the known runs and those of sleepers, timers and Ticks among reports, on what they refuse, and on any bytes.
 mod known;
 
 use beltcairn::kind::{
     ARM, CANCEL, CREATE, DELAY, END, EXPIRE, GIVE, LATE, LOST, PERIOD, READY, RELINQUISH, START, SWITCH, TAKE, TICK, WON, YIELD,
 };
 use beltcairn::{bench, check, Reply, Verdict, Watch, Written};
-use known::timers::run_of_timers;
-use known::{bytes, known, run_a, sleepers, timers, Run, PLAN_A};
+use known::interrupts::run_of_interrupts;
+use known::timers::{armed, run_of_timers};
+use known::{bytes, interrupts, known, run_a, sleepers, started, timers, Run, PLAN_A};
 
 const KINDS: [u8; 18] = [
     CREATE, DELAY, RELINQUISH, END, TAKE, GIVE, TICK, ARM, START, PERIOD, CANCEL, READY, SWITCH, WON, LOST, YIELD, EXPIRE, LATE,
 ];
 
-fn all_runs() -> impl Iterator<Item = Run> {
+/// Those in which each call that is admitted is made with nothing due, but for P6.
+fn rested_runs() -> impl Iterator<Item = Run> {
     known().into_iter().chain(sleepers::runs()).chain(timers::runs())
+}
+
+fn all_runs() -> impl Iterator<Item = Run> {
+    rested_runs().chain(interrupts::runs())
 }
 
 /// The verdict of live steps, one for each record until one breaks a rule.
@@ -42,12 +48,16 @@ fn known_runs_whole_and_step_by_step() {
     }
 }
 
+fn calls_of(records: &[(u8, u16)]) -> Vec<(u8, u16)> {
+    records.iter().copied().filter(|record| record.0 < READY).collect()
+}
+
 #[test]
 fn calls_of_a_clean_run_make_its_dump() {
     let ends_inside_arming = |run: &Run| matches!(run.records.last(), Some((ARM | START, _)));
     let settled = |run: &Run| matches!(run.verdict, Verdict::Clean { due: 0, .. }) && !ends_inside_arming(run);
-    for run in all_runs().filter(settled) {
-        let calls: Vec<(u8, u16)> = run.records.iter().copied().filter(|r| r.0 < READY).collect();
+    for run in rested_runs().filter(settled) {
+        let calls = calls_of(&run.records);
         let dump = bytes(&run.records);
         let mut out = vec![0xaa; dump.len() + 7];
         assert_eq!(
@@ -62,6 +72,45 @@ fn calls_of_a_clean_run_make_its_dump() {
         assert_eq!(bench(&run.plan, &bytes(&calls), &mut short), Written::Refused(11), "{}", run.name);
         assert!(short.iter().all(|b| *b == 0xaa), "{}", run.name);
     }
+}
+
+/// The known runs in which nobody sleeps, with a Tick behind each record. No timer is armed there, so that a Tick adds nothing and makes the
+/// Switch due again that it drops: the verdict is that of the run, at a record twice as far.
+#[test]
+fn known_runs_with_many_ticks() {
+    let wakeful = |run: &Run| !run.records.iter().any(|record| record.0 == DELAY);
+    for run in known().into_iter().filter(wakeful) {
+        let records: Vec<(u8, u16)> = run.records.iter().flat_map(|record| [*record, (TICK, 0)]).collect();
+        let verdict = match run.verdict {
+            Verdict::Clean { records, due } => Verdict::Clean { records: 2 * records, due },
+            Verdict::Breach { record, rule } => Verdict::Breach { record: 2 * record, rule },
+            refused => refused,
+        };
+        assert_eq!(check(&run.plan, &bytes(&records)), verdict, "{}", run.name);
+        assert_eq!(step_by_step(&run.plan, &records), verdict, "{}", run.name);
+    }
+}
+
+/// The bench kernel gives every report before its next call: of the calls of this run it makes the dump with each Tick behind the reports.
+#[test]
+fn the_bench_makes_no_interrupts() {
+    let parts: [&[(u8, u16)]; 8] = [
+        &started(2),
+        &[(TICK, 0)],
+        &armed(0, 2, 1, 0),
+        &[(CREATE, 1), (READY, 1), (TICK, 0), (EXPIRE, 0), (TICK, 0), (EXPIRE, 0)],
+        &[(DELAY, 1), (SWITCH, 1), (TICK, 0), (EXPIRE, 0)],
+        &[(TICK, 0), (EXPIRE, 0), (READY, 2), (SWITCH, 2)],
+        &[(TAKE, 0), (WON, 2), (TICK, 0), (EXPIRE, 0)],
+        &[(GIVE, 0), (CANCEL, 0)],
+    ];
+    let (interrupted, rested) = (run_of_interrupts(), parts.concat());
+    let clean = |records| Verdict::Clean { records, due: 0 };
+    assert_eq!(check(&PLAN_A, &bytes(&interrupted)), clean(25));
+    assert_eq!(check(&PLAN_A, &bytes(&rested)), clean(28));
+    let mut out = vec![0xaa; 2 + 3 * 28];
+    assert_eq!(bench(&PLAN_A, &bytes(&calls_of(&interrupted)), &mut out), Written::Wrote(28));
+    assert_eq!(out, bytes(&rested));
 }
 
 #[test]
@@ -182,13 +231,13 @@ fn any_bytes_are_answered() {
     }
 }
 
-/// Run A and a run of timers with up to three numbers changed: the whole check says what live steps say.
+/// Run A, a run of timers and one of Ticks among reports with up to three numbers changed: the whole check says what live steps say.
 #[test]
 fn changed_runs_are_judged_alike() {
     let mut numbers = Numbers(2);
     let (mut clean, mut broken) = (0, 0);
     for i in 0..40_000 {
-        let mut records = if i % 2 == 0 { run_a() } else { run_of_timers() };
+        let mut records = [run_a, run_of_timers, run_of_interrupts][i % 3]();
         for _ in 0..numbers.below(4) {
             let i = numbers.below(records.len());
             match numbers.below(3) {

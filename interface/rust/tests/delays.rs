@@ -1,11 +1,11 @@
 //! The order of Delays and the thread reported in the watch state: what the library writes, and what it reads from states made here.
 mod known;
 
-use beltcairn::kind::{DELAY, LATE, READY, SWITCH, TICK};
+use beltcairn::kind::{DELAY, LATE, READY, RELINQUISH, SWITCH, TICK};
 use beltcairn::packed::{numbers, word};
-use beltcairn::{breach, refused, Queue, Reply, Report, Watch, NOBODY};
+use beltcairn::{breach, refused, Queue, Reply, Watch, NOBODY};
 use known::started;
-use known::states::{is_refused, largest, listed, made, owed, steps};
+use known::states::{is_refused, largest, listed, made, made_owing, owed, steps};
 
 /// The Readys of these threads in order, and the Switch behind them.
 fn woken(threads: &[u16], first: u16) -> Vec<(u8, u16)> {
@@ -136,19 +136,11 @@ fn every_order_of_two_sleepers() {
     }
 }
 
-/// `made` with one report due.
-fn made_owing(kind: u8, operand: u16) -> Watch {
-    let mut watch = made();
-    watch.state.due.items[0] = Report { kind, operand };
-    watch.state.due.count = 1;
-    watch
-}
-
 /// With nothing due the thread reported is the chosen one, or nobody where the line is empty; that a report was given is no matter.
 #[test]
 fn reported_with_nothing_due() {
     for reported in 0..=255 {
-        let (mut running, mut given, mut asleep) = (made(), made_owing(LATE, 0), all_asleep([0, 1, 2]));
+        let (mut running, mut given, mut asleep) = (made(), made_owing(&[(LATE, 0)]), all_asleep([0, 1, 2]));
         given.state.given = 1;
         for watch in [&mut running, &mut given, &mut asleep] {
             watch.state.machine.reported = reported;
@@ -166,20 +158,26 @@ fn reported_with_nothing_due() {
     }
 }
 
-/// With a report due any thread may be the one reported. Once it is given, the state is asked again.
+/// With a report due any thread may be the one reported; a Tick makes a Switch due to the chosen one. Once the report is given, the state is
+/// asked again.
 #[test]
 fn reported_with_a_report_due() {
     for reported in 0..=255 {
-        let mut watch = made_owing(LATE, 0);
+        let mut watch = made_owing(&[(LATE, 0)]);
         watch.state.machine.reported = reported;
         if !matches!(reported, 0..=2 | 255) {
             is_refused(watch, refused::STATE, LATE, 0);
             continue;
         }
-        let mut other = watch;
-        assert_eq!(other.step(TICK, 0), Reply::Broken(breach::REPORT_DUE));
+        let (mut calling, mut ticked) = (watch, watch);
+        assert_eq!(calling.step(RELINQUISH, 0), Reply::Broken(breach::REPORT_DUE));
+        steps(&mut ticked, &[(TICK, 0)]);
+        match reported {
+            0 => assert_eq!(owed(&ticked.state), [(LATE, 0)]),
+            _ => assert_eq!(owed(&ticked.state), [(LATE, 0), (SWITCH, 0)]),
+        }
         assert_eq!(watch.step(LATE, 0), Reply::Clean(0));
-        assert_eq!(watch.state.machine.reported, reported);
+        assert_eq!((watch.state.machine.reported, ticked.state.machine.reported), (reported, reported));
         match reported {
             0 => assert_eq!(watch.step(TICK, 0), Reply::Clean(0)),
             _ => is_refused(watch, refused::STATE, TICK, 0),
@@ -190,12 +188,12 @@ fn reported_with_a_report_due() {
 /// A Switch due to the chosen thread puts a wrong one right, and one to another thread a right one wrong.
 #[test]
 fn reported_by_a_switch() {
-    let mut watch = made_owing(SWITCH, 0);
+    let mut watch = made_owing(&[(SWITCH, 0)]);
     watch.state.machine.reported = 2;
     steps(&mut watch, &[(SWITCH, 0), (TICK, 0)]);
     assert_eq!(watch.state.machine.reported, 0);
     for (operand, reported) in [(2, 2), (NOBODY, 255)] {
-        let mut watch = made_owing(SWITCH, operand);
+        let mut watch = made_owing(&[(SWITCH, operand)]);
         steps(&mut watch, &[(SWITCH, operand)]);
         assert_eq!(watch.state.machine.reported, reported);
         is_refused(watch, refused::STATE, TICK, 0);

@@ -3,7 +3,7 @@ mod known;
 
 use beltcairn::kind::{ARM, CANCEL, CREATE, DELAY, EXPIRE, LATE, PERIOD, READY, START, SWITCH, TICK};
 use beltcairn::{breach, refused, Armed, Arming, Begun, Reply, Report, Timers, Watch, NOBODY, ROOM, TIMERS};
-use known::states::{is_refused, steps};
+use known::states::{is_refused, owe, owed, steps};
 use known::timers::armed;
 
 fn timers(watch: &mut Watch) -> &mut Timers {
@@ -80,8 +80,7 @@ fn most_reports() {
     assert_eq!(watch.step(TICK, 0), Reply::Clean(ROOM as u64));
     let expected = (0..8).map(|timer| (EXPIRE, timer)).chain((0..16).map(|thread| (READY, thread)));
     let expected: Vec<(u8, u16)> = expected.chain([(SWITCH, 0)]).collect();
-    let owed: Vec<(u8, u16)> = watch.state.owed().iter().map(|report| (report.kind, report.operand)).collect();
-    assert_eq!(owed, expected);
+    assert_eq!(owed(&watch.state), expected);
     steps(&mut watch, &expected);
     assert!((0..TIMERS).all(|timer| read(&watch, timer) == Some((102, 100))));
 }
@@ -138,7 +137,7 @@ fn lent_timers() {
     assert_eq!(watch.step(CANCEL, 1), Reply::Broken(breach::NOT_ARMED));
 }
 
-/// From 0 by 3 at tick number 7: 0, 3 and 6 are lost. With a report due 31 is asked before 21.
+/// From 0 by 3 at tick number 7: 0, 3 and 6 are lost. With a report due 31 is asked before 21, and of a Tick too.
 #[test]
 fn lent_armings() {
     let mut watch = running_at(7);
@@ -153,9 +152,14 @@ fn lent_armings() {
     assert_eq!(read(&watch, 7), Some((9, 3)));
     timers(&mut watch).arming.stage = 1;
     watch.state.given = 0;
-    other = watch;
-    assert_eq!(watch.step(LATE, 3), Reply::Broken(breach::ARMING_ORDER));
-    assert_eq!(other.step(START, 1), Reply::Broken(breach::REPORT_DUE));
+    for (record, rule) in [
+        ((LATE, 3), breach::ARMING_ORDER),
+        ((TICK, 0), breach::ARMING_ORDER),
+        ((START, 1), breach::REPORT_DUE),
+    ] {
+        other = watch;
+        assert_eq!(other.step(record.0, record.1), Reply::Broken(rule));
+    }
 }
 
 #[test]
@@ -174,18 +178,17 @@ fn ill_formed_states() {
     }
     for (kind, operand) in [(15, 0), (23, 0), (READY, 1), (SWITCH, 255), (EXPIRE, 8), (EXPIRE, NOBODY)] {
         let mut watch = running_at(7);
-        watch.state.due.items[0] = Report { kind, operand };
-        (watch.state.due.count, watch.state.given) = (1, 0);
+        owe(&mut watch, &[(kind, operand)]);
         is_refused(watch, refused::STATE, TICK, 0);
     }
 }
 
-/// One thread: ten reports may be due, and no more.
+/// One thread: ten reports may be due, of which the last is a Switch, and no more.
 #[test]
 fn lent_most_reports() {
     let mut watch = running_at(7);
-    watch.state.due.items = [Report { kind: LATE, operand: 9 }; ROOM];
-    (watch.state.due.count, watch.state.given) = (25, 15);
+    owe(&mut watch, &[[(LATE, 9); ROOM - 1].as_slice(), &[(SWITCH, 0)]].concat());
+    watch.state.given = 15;
     assert_eq!((watch.state.owed().len(), watch.step(LATE, 9)), (10, Reply::Clean(9)));
     watch.state.given = 14;
     is_refused(watch, refused::STATE, TICK, 0);

@@ -48,6 +48,7 @@ pub fn all() -> Vec<Input> {
         input("relinquish", 1.5, regular::relinquish(LONG)),
         timers(1, LONG),
         input("sleepers", 1.5, random::sleepers(1, LONG)),
+        interrupts(1, LONG),
     ]
 }
 
@@ -65,6 +66,10 @@ pub fn mixed(name: &'static str, seed: u64, threads: usize, sections: usize, rec
 
 pub fn timers(seed: u64, records: usize) -> Input {
     input("timers", 1.5, random::timers(seed, records))
+}
+
+pub fn interrupts(seed: u64, records: usize) -> Input {
+    input("interrupts", 1.5, random::interrupts(seed, records))
 }
 
 /// Ticks that wake nobody, behind a few calls. No aim is set for it.
@@ -114,6 +119,16 @@ mod tests {
         assert!(others.iter().all(|kind| share(&input, *kind) > 0.01));
         assert!(share(&input, TICK) > 0.2 && share(&input, EXPIRE) > 0.2 && share(&input, CANCEL) > 0.002);
         assert!(records.iter().any(|record| record.0 == LATE && record.1 > 5));
+    }
+
+    #[test]
+    fn ticks_stand_between_calls_and_their_reports() {
+        let input = interrupts(1, LONG);
+        let records = input.decoded();
+        let parted = |report| records.windows(2).filter(|pair| pair[0].0 == TICK && pair[1].0 == report).count();
+        let counts: Vec<usize> = [SWITCH, WON, LOST, YIELD, LATE].iter().map(|report| parted(*report)).collect();
+        assert!(counts.iter().all(|count| *count > 30), "{counts:?}");
+        assert!(share(&input, TICK) > share(&timers(1, LONG), TICK));
     }
 
     #[test]

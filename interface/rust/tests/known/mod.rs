@@ -1,7 +1,8 @@
-//! The known runs of document 01, typed from its text: plan, records, and the verdict that it states. P14 is that of document 02's
-//! item 3, which says in words what happens; its records are worked out by hand.
+//! The known runs of document 01, typed from its text: plan, records, and the verdict that it states. That of P6 is document 02's item 4.
+//! P14 is that of item 3, which says in words what happens; its records are worked out by hand.
 #![allow(dead_code)] // each test file uses a part
 
+pub mod interrupts;
 pub mod sleepers;
 pub mod states;
 pub mod timers;
@@ -71,7 +72,7 @@ fn of_one_thread() -> Vec<Run> {
         clean("P3", &plan, &[], 0),
         clean("P4", &plan, &[&start, &asleep, &[(TICK, 0)], &awake], 0),
         breach("P5", &plan, &[&start, &asleep, &[(READY, 0)]], 6, 28),
-        breach("P6", &plan, &[&start, &asleep, &[(TICK, 0), (TICK, 0)]], 7, 21),
+        clean("P6", &plan, &[&start, &asleep, &[(TICK, 0), (TICK, 0)]], 2),
         clean("P7", &plan, &[&start, &[(RELINQUISH, 0)]], 0),
         breach("P8", &[1, 2, 1, 3, 0], &[&start, &taken(0), &taken(1), &[(GIVE, 0)]], 7, 27),
         breach("P9", &[1, 1, 1, 1, 0], &[&start, &taken(0), &[(DELAY, 1)]], 5, 24),

@@ -4,15 +4,15 @@ use super::{breach, clean, started, Run};
 use beltcairn::kind::{CREATE, DELAY, READY, SWITCH, TICK};
 use beltcairn::NOBODY;
 
-const PLAN: [u8; 8] = [2, 0, 1, 1, 0, 0, 0, 0];
+pub const PLAN: [u8; 8] = [2, 0, 1, 1, 0, 0, 0, 0];
 
 /// The running thread sleeps for so many ticks and one more, and this one runs.
-fn delayed(ticks: u16, next: u16) -> [(u8, u16); 2] {
+pub fn delayed(ticks: u16, next: u16) -> [(u8, u16); 2] {
     [(DELAY, ticks), (SWITCH, next)]
 }
 
 /// Both threads are ready, and this one runs.
-fn both_ready(first: u16, other: u16) -> Vec<(u8, u16)> {
+pub fn both_ready(first: u16, other: u16) -> Vec<(u8, u16)> {
     [&started(first)[..], &[(CREATE, other), (READY, other)]].concat()
 }
 

@@ -2,7 +2,7 @@
 
 use super::PLAN_A;
 use beltcairn::packed::numbers;
-use beltcairn::{Queue, Reply, State, Watch};
+use beltcairn::{Queue, Reply, Report, State, Watch};
 
 /// Clean steps.
 pub fn steps(watch: &mut Watch, records: &[(u8, u16)]) {
@@ -46,4 +46,22 @@ pub fn made() -> Watch {
     (m.delays.items, m.delays.count) = (1, 1);
     m.reported = 0;
     watch
+}
+
+/// `made` with these reports due.
+pub fn made_owing(reports: &[(u8, u16)]) -> Watch {
+    let mut watch = made();
+    owe(&mut watch, reports);
+    watch
+}
+
+/// These reports are due and no others, and none was given.
+pub fn owe(watch: &mut Watch, reports: &[(u8, u16)]) {
+    for (item, (kind, operand)) in watch.state.due.items.iter_mut().zip(reports) {
+        *item = Report {
+            kind: *kind,
+            operand: *operand,
+        };
+    }
+    (watch.state.due.count, watch.state.given) = (reports.len(), 0);
 }

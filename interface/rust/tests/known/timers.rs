@@ -1,10 +1,10 @@
 //! Runs with timers, worked out by hand from document 02's item 1: records and verdict, of one thread that records 0 to 2 start.
 
 use super::{breach, clean, started, Run};
-use beltcairn::kind::{ARM, CANCEL, DELAY, EXPIRE, LATE, PERIOD, READY, START, SWITCH, TICK};
+use beltcairn::kind::{ARM, CANCEL, DELAY, EXPIRE, LATE, PERIOD, READY, RELINQUISH, START, SWITCH, TICK};
 use beltcairn::NOBODY;
 
-const PLAN: [u8; 5] = [1, 0, 1, 0, 0];
+pub const PLAN: [u8; 5] = [1, 0, 1, 0, 0];
 
 /// Arm, Start and Period, and the Late behind them.
 pub fn armed(timer: u16, start: u16, period: u16, late: u16) -> [(u8, u16); 4] {
@@ -18,7 +18,7 @@ fn alarms() -> Vec<Run> {
     vec![
         clean("alarm", &PLAN, &[&start, &arm, &ticks, &expire, &ticks], 0),
         clean("alarm, Expire due", &PLAN, &[&start, &arm, &ticks], 1),
-        breach("alarm, no Expire", &PLAN, &[&start, &arm, &[(TICK, 0); 3]], 9, 21),
+        breach("alarm, no Expire", &PLAN, &[&start, &arm, &ticks, &[(RELINQUISH, 0)]], 9, 21),
         breach("alarm, a tick early", &PLAN, &[&start, &arm, &[(TICK, 0)], &expire], 8, 28),
         breach("alarm, another timer", &PLAN, &[&start, &arm, &ticks, &[(EXPIRE, 2)]], 9, 30),
         breach("alarm, unarmed", &PLAN, &[&start, &arm, &ticks, &expire, &cancel], 10, 32),

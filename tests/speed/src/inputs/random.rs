@@ -122,8 +122,18 @@ fn arm(run: &mut Recorder, draw: &mut Draw, timer: usize) {
 /// Two equal threads that run by turns and take sections, and two above them that sleep and take one each. Eight periodic timers run beside
 /// them, and now and then one is armed again, half of the times after a Cancel.
 pub fn timers(seed: u64, records: usize) -> (Vec<u8>, Vec<u8>) {
+    racks(seed, Recorder::new(2, &RACKS, records))
+}
+
+/// The same with Ticks among the reports.
+pub fn interrupts(seed: u64, records: usize) -> (Vec<u8>, Vec<u8>) {
+    racks(seed, Recorder::new(2, &RACKS, records).interrupted(Draw(seed + 1)))
+}
+
+const RACKS: [(u8, u16); 4] = [(1, 0b11), (1, 0b11), (2, 0b01), (3, 0b10)];
+
+fn racks(seed: u64, mut run: Recorder) -> (Vec<u8>, Vec<u8>) {
     let mut draw = Draw(seed);
-    let mut run = Recorder::new(2, &[(1, 0b11), (1, 0b11), (2, 0b01), (3, 0b10)], records);
     for thread in 0..4 {
         run.must(CREATE, thread);
     }

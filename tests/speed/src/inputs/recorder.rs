@@ -1,5 +1,6 @@
 //! Makes calls on the peer's machine and writes down what happens.
 
+use super::random::Draw;
 use crate::peer::{self, Machine};
 
 pub struct Recorder {
@@ -7,6 +8,7 @@ pub struct Recorder {
     plan: Vec<u8>,
     records: Vec<(u8, u16)>,
     wanted: usize,
+    clock: Option<Draw>,
 }
 
 impl Recorder {
@@ -21,7 +23,14 @@ impl Recorder {
             plan,
             records: Vec::new(),
             wanted,
+            clock: None,
         }
+    }
+
+    /// With Ticks among the reports, about one for every three of them.
+    pub fn interrupted(mut self, clock: Draw) -> Recorder {
+        self.clock = Some(clock);
+        self
     }
 
     /// Writes the call and its reports down if the machine admits it.
@@ -31,6 +40,11 @@ impl Recorder {
         }
         self.records.push((kind, operand));
         while let Some(report) = self.machine.first_due() {
+            if self.clock.as_mut().is_some_and(|clock| clock.below(4) == 0) {
+                self.records.push((peer::TICK, 0));
+                self.machine.judge(peer::TICK, 0).expect("a Tick is admitted with reports due");
+                continue;
+            }
             self.records.push((report.kind, report.operand));
             self.machine
                 .judge(report.kind, report.operand)

@@ -14,14 +14,23 @@ impl<const TUNED: bool> Machine<TUNED> {
 
     pub fn tick(&mut self) {
         self.tick += 1;
-        if TUNED && self.tick != self.soonest {
+        let interrupts = self.due() > 0;
+        if TUNED && !interrupts && self.tick != self.soonest {
             return;
+        }
+        if interrupts {
+            self.drop_switch();
+        } else {
+            (self.given, self.made) = (0, 0);
         }
         if self.timers.expiries.contains(&self.tick) {
             self.expire();
         }
-        if self.wakes[..self.plan.threads].contains(&self.tick) {
+        let wakes = self.wakes[..self.plan.threads].contains(&self.tick);
+        if wakes {
             self.wake();
+        }
+        if wakes || interrupts {
             self.settle();
         }
         if TUNED {

@@ -1,7 +1,7 @@
 //! Damaged dumps: both peers say of them what the proved watch says.
 
 use super::*;
-use crate::inputs::{mixed, timers, Draw, Input};
+use crate::inputs::{interrupts, mixed, timers, Draw, Input};
 use crate::KINDS;
 
 fn put(input: &mut Input, at: usize, (kind, operand): (u8, u16)) {
@@ -34,10 +34,11 @@ fn damage(input: &mut Input, draw: &mut Draw) {
 fn verdicts_agree_on_damaged_dumps() {
     let mut draw = Draw(7);
     let mut seen = std::collections::BTreeSet::new();
-    for seed in 0..4000 {
-        let mut input = match seed % 2 {
+    for seed in 0..6000 {
+        let mut input = match seed % 3 {
             0 => mixed("damaged", seed, 1 + draw.below(16), draw.below(17), 300),
-            _ => timers(seed, 300),
+            1 => timers(seed, 300),
+            _ => interrupts(seed, 300),
         };
         damage(&mut input, &mut draw);
         let verdict = beltcairn::check(&input.plan, &input.dump);

@@ -74,7 +74,7 @@ fn p4_to_p6_delay() {
     let after = |rest: &[(u8, u16)]| alone(&[&ASLEEP, rest].concat());
     assert_eq!(after(&[(TICK, 0), (TICK, 0), (READY, 0), (SWITCH, 0)]), clean(9, 0));
     assert_eq!(after(&[(TICK, 0), (READY, 0)]), breach(6, 28));
-    assert_eq!(after(&[(TICK, 0), (TICK, 0), (TICK, 0)]), breach(7, 21));
+    assert_eq!(after(&[(TICK, 0), (TICK, 0), (TICK, 0)]), clean(8, 2));
 }
 
 #[test]

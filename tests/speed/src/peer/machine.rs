@@ -103,11 +103,13 @@ pub struct Machine<const TUNED: bool> {
     pub waits: Queue,
     /// The sleepers in order of their Delays.
     pub delays: Queue,
+    /// The thread last reported, a Switch that is due included, and that of the latest Switch given.
     pub reported: u16,
+    shown: u16,
     pub timers: Timers,
     reports: [Report; ROOM],
-    given: usize,
-    made: usize,
+    pub given: usize,
+    pub made: usize,
 }
 
 impl<const TUNED: bool> Machine<TUNED> {
@@ -123,6 +125,7 @@ impl<const TUNED: bool> Machine<TUNED> {
             waits: Queue::EMPTY,
             delays: Queue::EMPTY,
             reported: NOBODY,
+            shown: NOBODY,
             timers: Timers::UNARMED,
             reports: [Report { kind: 0, operand: 0 }; ROOM],
             given: 0,
@@ -140,6 +143,23 @@ impl<const TUNED: bool> Machine<TUNED> {
         self.reports[..self.made].get(self.given).copied()
     }
 
+    /// Moves the reports due to the front, without a Switch.
+    pub fn drop_switch(&mut self) {
+        self.reports.copy_within(self.given..self.made, 0);
+        (self.given, self.made) = (0, self.due());
+        if self.reported != self.shown {
+            self.made -= 1;
+            self.reported = self.shown;
+        }
+    }
+
+    /// Whether an Expire of this timer is due.
+    pub fn owes_expire(&self, timer: usize) -> bool {
+        self.reports[self.given..self.made]
+            .iter()
+            .any(|report| report.kind == EXPIRE && report.operand == timer as u16)
+    }
+
     pub fn report(&mut self, kind: u8, operand: u16) {
         self.reports[self.made] = Report { kind, operand };
         self.made += 1;
@@ -152,15 +172,15 @@ impl<const TUNED: bool> Machine<TUNED> {
         if kind >= READY {
             return self.hear(kind, operand);
         }
+        if kind == TICK {
+            self.tick();
+            return Ok(());
+        }
         if self.due() > 0 {
             return Err(21);
         }
         (self.given, self.made) = (0, 0);
         match kind {
-            TICK => {
-                self.tick();
-                return Ok(());
-            }
             CREATE => self.create(operand)?,
             ARM..=CANCEL => {
                 self.caller()?;
@@ -201,6 +221,9 @@ impl<const TUNED: bool> Machine<TUNED> {
         }
         if first.operand != operand {
             return Err(30);
+        }
+        if kind == SWITCH {
+            self.shown = operand;
         }
         self.given += 1;
         Ok(())

@@ -74,7 +74,9 @@ impl<const TUNED: bool> Machine<TUNED> {
             if self.timers.expiries[timer] == self.tick {
                 let period = self.timers.periods[timer];
                 self.timers.expiries[timer] = if period == 0 { u32::MAX } else { self.tick + period as u32 };
-                self.report(EXPIRE, timer as u16);
+                if !self.owes_expire(timer) {
+                    self.report(EXPIRE, timer as u16);
+                }
             }
         }
     }

@@ -8,7 +8,7 @@ use native.Mathlib.Omega.{arith}
 use borrow.Author.Needs.{needs}
 use borrow.Author.Tests.{eq-eqb, ne-eqb}
 use lib.Dec.{eqb}
-use lib.ListN.{length, drop, getD, set, length-set}
+use lib.ListN.{length, drop, getD, set, length-set, length-replicate}
 use Rattle.model.specs.Records as records
 use Rattle.model.specs.State.{withoutSwitch}
 use Rattle.model.proofs.Loops.{stored-next}
@@ -16,7 +16,6 @@ use Rattle.due.specs.declared.reports.Report.{Report}
 use Rattle.due.specs.declared.reports.Reports.{Reports}
 use Rattle.due.specs.Lists.{reportRoom, reportOf, noReport, owed}
 use Rattle.due.proofs.ReportKinds.{switch-is}
-use Rattle.due.proofs.Sized.{reports-size}
 use Rattle.due.proofs.Places.{none-due, next-due}
 use Rattle.due.proofs.reports.Reports.without_switch.Statement.{statement}
 use Rattle.due.proofs.reports.Reports.without_switch.Tie as tie
@@ -40,8 +39,8 @@ module _ (rs : Reports) where
     stored : length items ≡ reportRoom → n < reportRoom → entry i .kind ≢ 17
         → owed (record { items = items; count = n }) ++ from i ≡ from given
         → owed (record { items = set items n (entry i); count = n + 1 }) ++ from (i + 1) ≡ from given
-    stored e r d q =
-        ap (λ l. l ++ from (i + 1)) (stored-next reportOf noReport (entry i) items n (omega (arith, e, r)))
+    stored e b d q =
+        ap (λ l. l ++ from (i + 1)) (stored-next reportOf noReport (entry i) items n (omega (arith, e, b)))
         ∙ append-assoc (owed (record { items = items; count = n })) (reportOf (entry i) ∷ []) (from (i + 1))
         ∙ ap (λ l. owed (record { items = items; count = n }) ++ l) (ap (λ b. cond (not b) (reportOf (entry i) ∷ from (i + 1)) (from (i + 1))) (sym (ne-eqb (entry i .kind) 17 d)) ∙ sym (turn i h))
         ∙ q
@@ -51,14 +50,17 @@ module _ (rs : Reports) where
         ap (λ l. owed (record { items = items; count = n }) ++ l) (ap (λ b. cond (not b) (reportOf (entry i) ∷ from (i + 1)) (from (i + 1))) (sym (eq-eqb (entry i .kind) 17 e)) ∙ sym (turn i h)) ∙ q
 
 abbrev Inv-loop : tie.InvT-loop
-Inv-loop given all items₀ count n₀ i₀ items n i =
+Inv-loop given all count items₀ n₀ i₀ items n i =
     (given ≤ i) × (n + given ≤ i) × (length items ≡ reportRoom) × (let rs : Reports = record { items = all; count = count } in owed (record { items = items; count = n }) ++ from rs i ≡ from rs given)
 
 abbrev μ-loop : tie.MeasureT-loop
-μ-loop given all items₀ count n₀ i₀ items n i = count - i
+μ-loop given all count items₀ n₀ i₀ items n i = count - i
+
+of-requires : tie.Need-of-requires Inv-loop μ-loop
+of-requires c κs = tt
 
 loop-holds : tie.Need-loop-holds Inv-loop μ-loop
-loop-holds c = let s = c .before .before in (omega arith, omega arith, reports-size (s .args .self) (s .good .0), refl)
+loop-holds c = (omega arith, omega arith, length-replicate reportRoom (c .of .result), refl)
 
 -- those left are in the array, and as many places are free as are read
 room : (l : tie.In-loop Inv-loop μ-loop) → l .before .loop .i < reportRoom
@@ -110,4 +112,4 @@ returns c =
     sym (append-nil (owed (record { items = l .items; count = l .n }))) ∙ ap (λ m. owed (record { items = l .items; count = l .n }) ++ m) (sym (done (a .self) (l .i) (omega (arith, c .loop-test .left)))) ∙ l .inv .3
 
 pub without-switch-spec : {M : Type 1} → statement M
-without-switch-spec = tie.close (tie.spec Inv-loop μ-loop loop-holds mul-r array-copy-out-r mul-items array-set-from-items add-n add-i loop-less loop-again returns)
+without-switch-spec = tie.close (tie.spec Inv-loop μ-loop of-requires loop-holds mul-r array-copy-out-r mul-items array-set-from-items add-n add-i loop-less loop-again returns)

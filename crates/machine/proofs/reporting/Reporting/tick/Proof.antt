@@ -1,10 +1,10 @@
 -- `tick` meets its contract: behind the reports still due but a Switch the timers whose tick number this is and that are owed none are reported, and
 -- behind them the sleepers that wake, in the order of their Delays.
 use mathlib.Core.Path.{_≡_, refl, ap, ap₂, sym, subst, _∙_}
-use mathlib.Core.List.{List, map, _++_, append-assoc}
+use mathlib.Core.List.{List, map, _++_}
 use Prim.Native.Nat.{ℕ, suc, _+_, _≤_}
 use native.Mathlib.Omega.{arith}
-use lib.ListN.{drop}
+use lib.ListN.{length, drop}
 use Rattle.model.specs.Searches.{filter}
 use Rattle.model.specs.State.{allReady, withoutSwitch}
 use Rattle.model.specs.Records as records
@@ -12,6 +12,7 @@ use Rattle.model.specs.Records.{Ready, Expire}
 use Rattle.model.specs.Timers.{expired, moveOn}
 use Rattle.model.specs.Calls.{tick, sleepers, stillAsleep}
 use Rattle.model.specs.Formed.{claims}
+use Rattle.model.proofs.Laws.{expired-without}
 use Rattle.lists.specs.Lists.{queued}
 use Rattle.machine.specs.declared.Machine.{Machine}
 use Rattle.due.specs.declared.reports.Reports.{Reports}
@@ -25,7 +26,7 @@ use Rattle.machine.proofs.Asking.{tick-rule}
 use Rattle.machine.proofs.Facts.{Facts, facts}
 use Rattle.machine.proofs.Meets.{alike}
 use Rattle.machine.proofs.Room.{sleepers-room}
-use Rattle.machine.proofs.Woken.{placed-ready, woken-are, asleep-are, asleep-fit, kept-expired, expire-room, ready-room}
+use Rattle.machine.proofs.Woken.{placed-ready, woken-are, asleep-are, asleep-fit, woken-fit, tick-room}
 use Rattle.machine.proofs.Quieted.{tick-sleeps, next-quiet}
 use Rattle.machine.proofs.Outcomes.{tick-asked, claims-room, tick-settles, tick-answers}
 use Rattle.machine.proofs.Owing.{array-due, array-room}
@@ -64,40 +65,47 @@ claimed c = claims-room (came c .pre .asks)
 array-requires : tie.Need-array-requires
 array-requires c κs = tt
 
-without-switch-requires : tie.Need-without-switch-requires
-without-switch-requires c κs = λ h.
-    let s = came (c .before) in
+-- the array's reports, and those due: the same without a Switch, which owes no Expire
+
+module _ (c : tie.After-array) where
+  abbrev here : Reporting
+  here = came (c .before) .args .self
+
+  abbrev in-array : List records.Report
+  in-array = drop (here .given) (owed (c .array .result))
+
+  same-kept : withoutSwitch in-array ≡ withoutSwitch (owed-before (c .before))
+  same-kept = ap (λ (rs : Reports). withoutSwitch (drop (here .given) (owed rs))) (c .array .ensures) ∙ array-due here (came (c .before) .pre .asks .stands .apart')
+
+  same-ended : (n : ℕ) → expired n in-array (idle (here .machine) .timers) ≡ expired n (owed-before (c .before)) (idle (here .machine) .timers)
+  same-ended n =
+      let ts = idle (here .machine) .timers in
+      sym (expired-without n in-array ts) ∙ ap (λ l. expired n l ts) same-kept ∙ expired-without n (owed-before (c .before)) ts
+
+ticked-requires : tie.Need-ticked-requires
+ticked-requires c κs =
+    let w = c .before in
+    let s = came w in
     let x = s .args .self in
     let same = ap (λ (rs : Reports). rs .count) (c .array .ensures) in
-    omega (arith, same, array-room x (s .pre .asks .formed') (s .pre .asks .stands .apart') (reporting-size x (s .good .0)) (omega (arith, h, same)))
-
-kept-is : (c : tie.After-without-switch) → owed (c .without-switch .result) ≡ withoutSwitch (owed-before (c .before .before))
-kept-is c =
-    let s = came (c .before .before) in
-    let x = s .args .self in
-    c .without-switch .ensures ∙ ap (λ (rs : Reports). withoutSwitch (drop (x .given) (owed rs))) (c .before .array .ensures) ∙ array-due x (s .pre .asks .stands .apart')
-
-expired-requires : tie.Need-expired-requires
-expired-requires c κs =
-    let w = c .before .before in
-    (omega (arith, next-number w), expire-room (known w) (number w) (w .wake .ensures) (owed-before w) (claimed w) (next-number w) (c .without-switch .result) (kept-is c))
-
-readied-requires : tie.Need-readied-requires
-readied-requires c κs =
-    let k = c .before in
-    let w = k .before .before in
-    ready-room (known w) (number w) (w .wake .ensures) (owed-before w) (claimed w) (next-number w) (k .without-switch .result) (kept-is k) (c .expired .result) (c .expired .ensures)
+    let e = w .wake .ensures in
+    record {
+      later = omega (arith, next-number w);
+      in-array = λ h. omega (arith, same, array-room x (s .pre .asks .formed') (s .pre .asks .stands .apart') (reporting-size x (s .good .0)) (omega (arith, h, same)));
+      few = woken-fit (known w) (number w) e;
+      room = omega (arith, ap length (same-kept c), ap length (same-ended c (number w)), tick-room (known w) (number w) e (owed-before w) (claimed w) (next-number w));
+    }
 
 moved-on-requires : tie.Need-moved-on-requires
-moved-on-requires c κs = let w = c .before .before .before .before in (omega (arith, next-number w), omega (arith, next-number w, tick-asked (came w .pre) .room))
+moved-on-requires c κs = let w = c .before .before in (omega (arith, next-number w), omega (arith, next-number w, tick-asked (came w .pre) .room))
 
 next-event-requires : tie.Need-next-event-requires
-next-event-requires c κs = let w = c .before .before .before .before .before in asleep-fit (known w) (number w) (w .wake .ensures)
+next-event-requires c κs = let w = c .before .before .before in asleep-fit (known w) (number w) (w .wake .ensures)
 
 -- what is left before the Switch
 
 abbrev woke : tie.After-moved-on → tie.After-wake
-woke c = c .before .before .before .before .before
+woke c = c .before .before .before
 
 abbrev ticked : tie.After-moved-on → Machine
 ticked c =
@@ -109,20 +117,16 @@ ticked c =
 -- what stays, behind it the Expires, behind them the Readys
 due : (c : tie.After-moved-on)
     → (let w = woke c in let n = number w in let old = owed-before w in let m = came w .args .self .machine in
-    owed (c .before .readied .result) ≡ withoutSwitch old ++ (map Expire (expired n old (idle m .timers)) ++ map Ready (sleepers n (idle m))))
+    owed (c .before .ticked .result) ≡ withoutSwitch old ++ (map Expire (expired n old (idle m .timers)) ++ map Ready (sleepers n (idle m))))
 due c =
-    let x = c .before .before in
-    let k = x .before in
+    let r = c .before .before in
     let w = woke c in
     let n = number w in
-    let m = came w .args .self .machine in
-    let e = w .wake .ensures in
-    let ended = kept-expired (known w) n e (owed-before w) (claimed w) (next-number w) (k .without-switch .result) (kept-is k) in
-    c .before .readied .ensures
-    ∙ ap₂ (λ a b. a ++ map Ready b) (x .expired .ensures ∙ ap₂ (λ a b. a ++ map Expire b) (kept-is k) ended) (e .woken' ∙ woken-are (known w) n)
-    ∙ append-assoc (withoutSwitch (owed-before w)) (map Expire (expired n (owed-before w) (idle m .timers))) (map Ready (sleepers n (idle m)))
+    c .before .ticked .ensures
+    ∙ ap₂ (λ a b. a ++ (map Expire b ++ map Ready (queued (w .wake .result .woken)))) (same-kept r) (same-ended r n)
+    ∙ ap (λ l. withoutSwitch (owed-before w) ++ (map Expire (expired n (owed-before w) (idle (came w .args .self .machine) .timers)) ++ map Ready l)) (w .wake .ensures .woken' ∙ woken-are (known w) n)
 
-made : (c : tie.After-moved-on) → (let s = came (woke c) .args .self in MakesOf (shown s) (ticked c) (c .before .readied .result) 0 (s .machine) records.Tick)
+made : (c : tie.After-moved-on) → (let s = came (woke c) .args .self in MakesOf (shown s) (ticked c) (c .before .ticked .result) 0 (s .machine) records.Tick)
 unfolding tick
 made c =
     let w = woke c in
@@ -169,4 +173,4 @@ returns c =
     (record { answers = tick-answers (s .pre) (made l) (h .chosen .ensures) (subst (Quiet m) (sym (q .next-event .ensures)) (next-quiet m (tick-sleeps (known (woke l)) (made l)))); quiet' = q .next-event .ensures })
 
 pub tick-spec : {M : Type 1} → statement M
-tick-spec = tie.close (tie.spec next-requires wake-requires array-requires without-switch-requires expired-requires readied-requires moved-on-requires next-event-requires chosen-requires telling-requires owing-requires returns)
+tick-spec = tie.close (tie.spec next-requires wake-requires array-requires ticked-requires moved-on-requires next-event-requires chosen-requires telling-requires owing-requires returns)
