@@ -7,7 +7,7 @@ use mathlib.Core.Option.{Option, none, some}
 use Prim.Native.Nat.{ℕ, suc, _+_, _≤_, _<_}
 use native.Mathlib.Omega.{arith}
 use lib.Dec.{T}
-use lib.ListN.{length, length-append, length-map}
+use lib.ListN.{length, length-append}
 use Rattle.model.specs.Searches.{_▷_, filter, upTo, without}
 use Rattle.model.specs.Plan.{base, ceiling, validPlan}
 use Rattle.model.specs.Records.{TimerCall, Arm, Start, Period, Cancel, Report, Ready, Won, Lost, Yield}
@@ -32,7 +32,7 @@ use Rattle.machine.proofs.Admitted.{TickAsked, Creates, Runs, Takes, Gi
 use Rattle.machine.proofs.Switched.{Settles}
 use Rattle.machine.proofs.Facts.{Formed, Facts, facts}
 use Rattle.lists.proofs.Laws.{length-queued, length-held}
-use Rattle.machine.proofs.Room.{waiting-known, threads-fit, waiting-room, sleepers-room, delays-fit, create-room, caller-known, without-room, waits-room, take-room, give-room}
+use Rattle.machine.proofs.Room.{waiting-known, threads-fit, waiting-room, sleepers-room, create-room, caller-known, without-room, waits-room, take-room, give-room}
 use Rattle.machine.proofs.Chosen.{listed}
 
 -- the lists fit their words and name threads, there is room for a Switch behind the reports due, and none of them is a Switch: the thread last reported is still

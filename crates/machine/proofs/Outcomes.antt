@@ -1,13 +1,12 @@
 -- What a call answers: it is made and followed by its Switch, or breaks a rule; or it is a Tick at which nothing happens.
-use mathlib.Core.Path.{_≡_, refl, ap, ap₂, sym, subst, _∙_}
+use mathlib.Core.Path.{_≡_, refl, ap, sym, subst, _∙_}
 use mathlib.Core.Logic.{_⊎_, inl, inr, _≢_}
-use mathlib.Core.Bool.{Bool, true, false, cond, not, _&&_}
+use mathlib.Core.Bool.{true, false, cond, not, _&&_}
 use mathlib.Core.List.{List, [], _∷_, _++_}
 use Prim.Native.Nat.{ℕ, _+_, _≤_, _<_}
 use native.Mathlib.Omega.{arith}
-use borrow.Author.Tests.{eq-eqb, ne-eqb, lt-ltb, le-ltb}
+use borrow.Author.Tests.{eq-eqb, ne-eqb}
 use lib.Dec.{eqb, leb, leb→le, ltb→lt}
-use lib.ListN.{getD}
 use Rattle.model.specs.Plan as plan
 use Rattle.model.specs.Plan.{threads}
 use Rattle.model.specs.Records as records
@@ -15,7 +14,7 @@ use Rattle.model.specs.Records.{Call, call, Switch}
 use Rattle.model.specs.State as state
 use Rattle.model.specs.Priorities.{greatestHold, current, chosen}
 use Rattle.model.specs.Calls.{tick, delay, relinquish, end, take, give, perform, switch}
-use Rattle.model.specs.Rules.{callPlace, broken}
+use Rattle.model.specs.Rules.{callPlace}
 use Rattle.model.specs.Runs.{effect}
 use Rattle.model.specs.Formed.{claims}
 use Rattle.model.proofs.Tests.{equal?, and-right}
@@ -28,9 +27,8 @@ use Rattle.machine.specs.declared.Machine.{Machine}
 use Rattle.clock.specs.declared.time.Tick.{Tick}
 use Rattle.due.specs.declared.reports.Reports.{Reports}
 use Rattle.machine.specs.declared.reporting.Reporting.{Reporting}
-use Rattle.due.specs.Lists.{reportRoom, threadOf, reportOf, noReport, switchTo, listed, owed}
+use Rattle.due.specs.Lists.{reportRoom, threadOf, listed, owed}
 use Rattle.machine.specs.View.{planOf, viewed, idle, reportAt, shown}
-use Rattle.machine.specs.Rules.{ruleNumber}
 use Rattle.machine.specs.Contracts.{owing, passed}
 use Rattle.machine.specs.Calls.{Apart, Quiet, Stands, Asks, Calls, Ticks, Answers}
 use Rattle.machine.proofs.Admitted.{CreateAsked, Asked, SectionAsked, TickAsked, asked, MakesOf, Makes, by}

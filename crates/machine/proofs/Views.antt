@@ -10,13 +10,11 @@ use Rattle.model.specs.State.{dormant, asleep, waiting}
 use Rattle.model.proofs.Loops.{listed, length-listed, changed-at}
 use Rattle.plan.proofs.Laws.{threads-view}
 use Rattle.machine.specs.declared.Machine.{Machine}
-use Rattle.due.specs.declared.reports.Reports.{Reports}
 use Rattle.machine.specs.declared.slots.Slots.{Slots}
 use Rattle.clock.specs.declared.time.Tick.{Tick}
 use Rattle.lists.specs.Words.{nibble}
 use Rattle.lists.proofs.Laws.{read-set, read-other}
 use Rattle.clock.specs.View.{numberAt}
-use Rattle.due.specs.Lists.{reportOf, noReport, owed}
 use Rattle.machine.specs.View.{conditionOf, conditionIn, conditionsOf, planOf, idle}
 use Rattle.machine.specs.Contracts.{placed, waitsFor}
 

@@ -1,13 +1,13 @@
 -- `owed_none` meets its contract: those counted so far, and those left that are armed and owed none, are all.
-use mathlib.Core.Path.{_≡_, refl, ap, sym, _∙_}
+use mathlib.Core.Path.{_≡_, ap, sym, _∙_}
 use mathlib.Core.Logic.{⊎-elim}
-use mathlib.Core.Bool.{Bool, true, false, cond, not, _&&_}
-use mathlib.Core.List.{List, [], _∷_}
+use mathlib.Core.Bool.{Bool, true, false, cond, not}
+use mathlib.Core.List.{_∷_}
 use Prim.Native.Nat.{ℕ, _+_, _-_, _≤_, _<_}
 use native.Mathlib.Omega.{arith}
 use borrow.Author.Needs.{needs}
-use lib.ListN.{length, drop}
-use Rattle.model.specs.Searches.{filter, upTo}
+use lib.ListN.{drop}
+use Rattle.model.specs.Searches.{upTo}
 use Rattle.model.specs.Records.{timerCount}
 use Rattle.model.specs.Formed.{times, owedNone}
 use Rattle.model.proofs.Loops.{left, begin, turn, done}

@@ -1,5 +1,5 @@
 -- `Reports::expired` meets its contract: after i turns the timers below i whose tick number this is and that are owed none are listed.
-use mathlib.Core.Path.{_≡_, refl, ap, sym, _∙_}
+use mathlib.Core.Path.{_≡_, ap, sym, _∙_}
 use mathlib.Core.Logic.{⊎-elim}
 use mathlib.Core.Bool.{Bool, true, false, not, _&&_}
 use mathlib.Core.List.{List, [], _∷_, _++_}
@@ -11,7 +11,6 @@ use Rattle.model.specs.Searches.{filter, upTo}
 use Rattle.model.specs.Records.{timerCount}
 use Rattle.model.specs.Timers.{slot, expiresAt, owesExpire}
 use Rattle.model.proofs.Loops.{upTo-more}
-use Rattle.lists.specs.declared.queue.Queue.{Queue}
 use Rattle.lists.specs.Lists.{queued}
 use Rattle.lists.proofs.Laws.{length-queued, filter-kept, filter-dropped}
 use Rattle.clock.specs.declared.timers.Timers.{Timers}

@@ -1,8 +1,7 @@
 -- `Reports::ticked` meets its contract: what stays, behind it the Expires, behind them the Readys; there is room for all.
 use mathlib.Core.Path.{_≡_, ap, ap₂, sym, _∙_}
-use mathlib.Core.Bool.{Bool, not, _&&_}
+use mathlib.Core.Bool.{not, _&&_}
 use mathlib.Core.List.{_++_, map, append-assoc}
-use Prim.Native.Nat.{ℕ, _≤_}
 use native.Mathlib.Omega.{arith}
 use lib.ListN.{length, drop, length-append, length-map}
 use Rattle.model.specs.Searches.{upTo}
