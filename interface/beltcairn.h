@@ -22,7 +22,7 @@
 
 /* The number of this interface. It rises whenever the layout of struct beltcairn_watch or the signature of a function moves. A program and a
  * library fit together if beltcairn_abi() answers the number that the program was compiled with. */
-#define BELTCAIRN_ABI 3
+#define BELTCAIRN_ABI 4
 
 /* Kinds of calls, with what the operand is. Calls are made by the running thread; Tick comes from the clock, and Create may also come when
  * nobody runs.
@@ -54,7 +54,8 @@
 #define BELTCAIRN_KIND_EXPIRE 21 /* timer below BELTCAIRN_TIMERS: it expires, before any Ready of the same Tick, lower timer first */
 #define BELTCAIRN_KIND_LATE 22   /* 0 to 65535, after Period: the expiries that the timer has lost; a greater count is written 65535 */
 
-/* The operand of a Switch to nobody, in a record and in a report of a watch state. In `reported`, a byte, 255 stands for nobody. */
+/* The operand of a Switch to nobody, in a record and in a report of a watch state. In `reported` and `owner`, which are bytes, 255 stands for
+ * nobody. */
 #define BELTCAIRN_NOBODY 65535
 
 /* The timers are 0 to 7. */
@@ -84,8 +85,9 @@
  * sleeper's above 4,000,065,536 or an expiry above 4,000,065,535; a section is held twice; a thread is listed twice in the line or the waits,
  * or is not in exactly one of its four conditions; the order of Delays does not name each sleeper just once and nobody else; an arming is at a
  * stage above 2; more than T + 9 reports are due; a Switch due is not last; reports due but a Switch, sleepers, armed timers owed no Expire, and
- * one together pass T + 9; or none is due and the chosen thread (the first in the line of greatest current priority, nobody if the line is
- * empty) is not the one last reported. Asked before 7. */
+ * one together pass T + 9; none is due and the chosen thread (the first in the line of greatest current priority, nobody if the line is
+ * empty) is not the one last reported; or the owner and the greatest ceiling in `top` are not those of the holds, whatever is due. Asked
+ * before 7. */
 #define BELTCAIRN_REFUSED_STATE 12
 #define BELTCAIRN_REFUSED_TICK 13 /* (step) Is it no Tick at tick number 4,000,000,000? Asked after 8. */
 
@@ -133,11 +135,19 @@ struct beltcairn_queue {
     size_t count;   /* offset 8: at most 16 */
 };
 
-/* Sections and the threads that hold them, the latest taken first. 24 bytes. */
+/* What a walk over the holds finds, kept so that nobody needs to walk: each call that moves a hold sets both. 2 bytes.
+ * Ask `owner` whether anything is held: a section that no thread needs, which can be held in a lent state only, has an owner and ceiling 0. */
+struct beltcairn_top {
+    uint8_t owner;   /* offset 0: the thread that holds the section of greatest ceiling, on a tie the one taken later; 255 if nothing is held */
+    uint8_t ceiling; /* offset 1: the greatest ceiling held; 0 if nothing is held */
+};
+
+/* Sections and the threads that hold them, the latest taken first. 32 bytes. */
 struct beltcairn_holds {
-    uint64_t sections; /* offset  0: a word; the first `count` in use */
-    uint64_t threads;  /* offset  8: a word; entry i is the thread that holds the section of entry i above */
-    size_t count;      /* offset 16: at most 16 */
+    uint64_t sections;        /* offset  0: a word; the first `count` in use */
+    uint64_t threads;         /* offset  8: a word; entry i is the thread that holds the section of entry i above */
+    size_t count;             /* offset 16: at most 16 */
+    struct beltcairn_top top; /* offset 24: their owner and greatest ceiling */
 };
 
 /* A report. 4 bytes, of which byte 1 means nothing. */
@@ -166,7 +176,7 @@ struct beltcairn_timers {
     struct beltcairn_arming arming;      /* offset 48 */
 };
 
-/* What the machine remembers, but for the reports due. 280 bytes. */
+/* What the machine remembers, but for the reports due. 288 bytes. */
 struct beltcairn_machine {
     struct beltcairn_plan plan;     /* offset   0 */
     uint32_t tick;                  /* offset  64: the tick number, Tick records so far */
@@ -174,38 +184,39 @@ struct beltcairn_machine {
     uint32_t wakes[16];             /* offset  88: the tick number that each sleeper waits for; in use where a thread is asleep */
     struct beltcairn_queue queue;   /* offset 152: the line, the ready threads in order of arrival */
     struct beltcairn_holds holds;   /* offset 168 */
-    struct beltcairn_queue waits;   /* offset 192: the waiting threads in order of their Take */
-    struct beltcairn_queue delays;  /* offset 208: the sleeping threads in order of their Delay */
-    uint8_t reported;               /* offset 224: the thread of the latest Switch given, 255 for nobody */
-    struct beltcairn_timers timers; /* offset 228 */
+    struct beltcairn_queue waits;   /* offset 200: the waiting threads in order of their Take */
+    struct beltcairn_queue delays;  /* offset 216: the sleeping threads in order of their Delay */
+    uint8_t reported;               /* offset 232: the thread of the latest Switch given, 255 for nobody */
+    struct beltcairn_timers timers; /* offset 236 */
 };
 
-/* The machine and its reports. 400 bytes. The reports of a call other than Tick, which comes with nothing due, take the place of those before.
+/* The machine and its reports. 408 bytes. The reports of a call other than Tick, which comes with nothing due, take the place of those before.
  * A Tick moves those still due to the front, and what it adds joins the end. */
 struct beltcairn_state {
     struct beltcairn_machine machine; /* offset   0 */
-    struct beltcairn_reports due;     /* offset 280: reports, in order */
-    size_t given;                     /* offset 392: how many of them were given; those behind are due */
+    struct beltcairn_reports due;     /* offset 288: reports, in order */
+    size_t given;                     /* offset 400: how many of them were given; those behind are due */
 };
 
-/* The watch state. 408 bytes, aligned to 8. It holds no pointer, so it can be copied and kept. The bytes between its fields mean nothing:
+/* The watch state. 416 bytes, aligned to 8. It holds no pointer, so it can be copied and kept. The bytes between its fields mean nothing:
  * compare states field by field, as far as their entries are in use. */
 struct beltcairn_watch {
     struct beltcairn_state state; /* offset   0 */
-    uint8_t rule;                 /* offset 400: the rule of a breach that is stored, 0 if there is none */
+    uint8_t rule;                 /* offset 408: the rule of a breach that is stored, 0 if there is none */
 };
 
 BELTCAIRN_ASSERT(sizeof(struct beltcairn_plan) == 64);
 BELTCAIRN_ASSERT(sizeof(struct beltcairn_slots) == 16);
 BELTCAIRN_ASSERT(sizeof(struct beltcairn_queue) == 16);
-BELTCAIRN_ASSERT(sizeof(struct beltcairn_holds) == 24);
+BELTCAIRN_ASSERT(sizeof(struct beltcairn_top) == 2);
+BELTCAIRN_ASSERT(sizeof(struct beltcairn_holds) == 32);
 BELTCAIRN_ASSERT(sizeof(struct beltcairn_report) == 4);
 BELTCAIRN_ASSERT(sizeof(struct beltcairn_reports) == 112);
 BELTCAIRN_ASSERT(sizeof(struct beltcairn_arming) == 4);
 BELTCAIRN_ASSERT(sizeof(struct beltcairn_timers) == 52);
-BELTCAIRN_ASSERT(sizeof(struct beltcairn_machine) == 280);
-BELTCAIRN_ASSERT(sizeof(struct beltcairn_state) == 400);
-BELTCAIRN_ASSERT(sizeof(struct beltcairn_watch) == 408);
+BELTCAIRN_ASSERT(sizeof(struct beltcairn_machine) == 288);
+BELTCAIRN_ASSERT(sizeof(struct beltcairn_state) == 408);
+BELTCAIRN_ASSERT(sizeof(struct beltcairn_watch) == 416);
 
 /* The number of the library's interface: BELTCAIRN_ABI of the header that it fits. */
 uint32_t beltcairn_abi(void);
@@ -227,7 +238,7 @@ uint8_t beltcairn_bench(const uint8_t *plan, size_t plan_len, const uint8_t *lis
                         uint64_t *records);
 
 /*
- * The watch state of a plan: all dormant, tick number 0, no timer armed, nobody reported, nothing due, no breach stored.
+ * The watch state of a plan: all dormant, tick number 0, no timer armed, nothing held, nobody reported, nothing due, no breach stored.
  * 0: made; what *watch had is of no account, but it is read, so it has to be initialised (zeroes will do).
  * 1 to 4: refused; *watch keeps what it had.
  */

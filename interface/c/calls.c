@@ -45,9 +45,14 @@ static int filled(const uint8_t *bytes, size_t from, size_t to)
 
 static int same_lists(const struct beltcairn_machine *a, const struct beltcairn_machine *b)
 {
-    return a->queue.items == b->queue.items && a->queue.count == b->queue.count && a->holds.sections == b->holds.sections &&
-           a->holds.threads == b->holds.threads && a->holds.count == b->holds.count && a->waits.items == b->waits.items &&
+    return a->queue.items == b->queue.items && a->queue.count == b->queue.count && a->waits.items == b->waits.items &&
            a->waits.count == b->waits.count && a->delays.items == b->delays.items && a->delays.count == b->delays.count;
+}
+
+static int same_holds(const struct beltcairn_holds *a, const struct beltcairn_holds *b)
+{
+    return a->sections == b->sections && a->threads == b->threads && a->count == b->count && a->top.owner == b->top.owner &&
+           a->top.ceiling == b->top.ceiling;
 }
 
 static int same_timers(const struct beltcairn_timers *a, const struct beltcairn_timers *b)
@@ -70,7 +75,7 @@ static int same_machine(const struct beltcairn_machine *a, const struct beltcair
     return a->plan.threads == b->plan.threads && a->plan.sections == b->plan.sections &&
            memcmp(a->plan.bases, b->plan.bases, 16) == 0 && memcmp(a->plan.needs, b->plan.needs, 32) == 0 && a->tick == b->tick &&
            a->slots.states == b->slots.states && a->slots.wants == b->slots.wants && memcmp(a->wakes, b->wakes, 64) == 0 &&
-           same_lists(a, b) && a->reported == b->reported && same_timers(&a->timers, &b->timers);
+           same_lists(a, b) && same_holds(&a->holds, &b->holds) && a->reported == b->reported && same_timers(&a->timers, &b->timers);
 }
 
 int same(const struct beltcairn_watch *a, const struct beltcairn_watch *b)
@@ -341,6 +346,8 @@ int main(void)
     check_delays();
     check_interrupts();
     check_claims();
+    check_tops();
+    check_lent_tops();
     printf("%d passed, %d failed\n", passed, failed);
     return failed > 0;
 }

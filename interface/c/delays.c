@@ -66,6 +66,7 @@ static struct beltcairn_watch all_asleep(uint64_t order)
     m->slots.states = ASLEEP | ASLEEP << 4 | ASLEEP << 8;
     m->wakes[0] = m->wakes[1] = m->wakes[2] = 9;
     m->queue.count = m->holds.count = m->waits.count = 0;
+    m->holds.top = (struct beltcairn_top){NOBODY_OWNS, 0};
     m->delays.items = order;
     m->delays.count = 3;
     m->reported = NOBODY_REPORTED;

@@ -28,7 +28,7 @@ enum {
 
 /* Conditions of threads, and nobody where a byte names the thread. */
 enum { DORMANT, IS_READY, ASLEEP, WAITING };
-enum { NOBODY_REPORTED = 255 };
+enum { NOBODY_REPORTED = 255, NOBODY_OWNS = 255 };
 
 /* What a number that is not to change has before a call. */
 enum { KEPT = 4711 };
@@ -74,6 +74,12 @@ int owes(const struct beltcairn_state *state, size_t i, uint8_t kind, uint16_t o
 /* Whether these reports are due, in this order, and no others; one of kind 0 ends them. */
 int owes_just(const struct beltcairn_state *state, const struct beltcairn_report *reports);
 
+/* Whether this is the owner kept, or nobody, and the greatest ceiling. */
+int has_top(const struct beltcairn_watch *watch, uint8_t owner, uint8_t ceiling);
+
+/* 12 whatever the record, asked before 7; not a byte of the state changes, not even those that mean nothing. */
+void ill_formed(struct beltcairn_watch watch);
+
 /* The watch state of a plan of so many bytes. */
 struct beltcairn_watch begun(const uint8_t *plan, size_t len);
 
@@ -100,5 +106,11 @@ void check_interrupts(void);
 
 /* claims.c: where a Switch due stands, and what has a claim on the room for reports. */
 void check_claims(void);
+
+/* tops.c: the owner and the greatest ceiling, behind each record of runs from the start. */
+void check_tops(void);
+
+/* lent_tops.c: the same asked of states made there, and set by calls from them. */
+void check_lent_tops(void);
 
 #endif

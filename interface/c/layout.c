@@ -12,24 +12,25 @@
     (offsetof(struct beltcairn_##type, field) == (offset) && sizeof(((struct beltcairn_##type *)0)->field) == (size))
 #define TYPE(function, ...) _Generic(&beltcairn_##function, __VA_ARGS__ : 1, default : 0)
 
-ABI(3, SIZE(plan, 64) && AT(plan, threads, 0, 8) && AT(plan, sections, 8, 8) && AT(plan, bases, 16, 16) && AT(plan, needs, 32, 32));
-ABI(3, SIZE(slots, 16) && AT(slots, states, 0, 8) && AT(slots, wants, 8, 8));
-ABI(3, SIZE(queue, 16) && AT(queue, items, 0, 8) && AT(queue, count, 8, 8));
-ABI(3, SIZE(holds, 24) && AT(holds, sections, 0, 8) && AT(holds, threads, 8, 8) && AT(holds, count, 16, 8));
-ABI(3, SIZE(report, 4) && AT(report, kind, 0, 1) && AT(report, operand, 2, 2));
-ABI(3, SIZE(reports, 112) && AT(reports, items, 0, 100) && AT(reports, count, 104, 8));
-ABI(3, SIZE(arming, 4) && AT(arming, stage, 0, 1) && AT(arming, timer, 1, 1) && AT(arming, start, 2, 2));
-ABI(3, SIZE(timers, 52) && AT(timers, expiries, 0, 32) && AT(timers, periods, 32, 16) && AT(timers, arming, 48, 4));
-ABI(3, SIZE(machine, 280) && AT(machine, plan, 0, 64) && AT(machine, tick, 64, 4) && AT(machine, slots, 72, 16));
-ABI(3, AT(machine, wakes, 88, 64) && AT(machine, queue, 152, 16) && AT(machine, holds, 168, 24) && AT(machine, waits, 192, 16));
-ABI(3, AT(machine, delays, 208, 16) && AT(machine, reported, 224, 1) && AT(machine, timers, 228, 52));
-ABI(3, SIZE(state, 400) && AT(state, machine, 0, 280) && AT(state, due, 280, 112) && AT(state, given, 392, 8));
-ABI(3, SIZE(watch, 408) && AT(watch, state, 0, 400) && AT(watch, rule, 400, 1) && _Alignof(struct beltcairn_watch) == 8);
-ABI(3, TYPE(abi, uint32_t (*)(void)));
-ABI(3, TYPE(check, uint8_t (*)(const uint8_t *, size_t, const uint8_t *, size_t, uint64_t *, uint64_t *)));
-ABI(3, TYPE(bench, uint8_t (*)(const uint8_t *, size_t, const uint8_t *, size_t, uint8_t *, size_t, uint64_t *)));
-ABI(3, TYPE(begin, uint8_t (*)(const uint8_t *, size_t, struct beltcairn_watch *)));
-ABI(3, TYPE(step, uint8_t (*)(struct beltcairn_watch *, uint8_t, uint16_t, uint64_t *)));
+ABI(4, SIZE(plan, 64) && AT(plan, threads, 0, 8) && AT(plan, sections, 8, 8) && AT(plan, bases, 16, 16) && AT(plan, needs, 32, 32));
+ABI(4, SIZE(slots, 16) && AT(slots, states, 0, 8) && AT(slots, wants, 8, 8));
+ABI(4, SIZE(queue, 16) && AT(queue, items, 0, 8) && AT(queue, count, 8, 8));
+ABI(4, SIZE(top, 2) && AT(top, owner, 0, 1) && AT(top, ceiling, 1, 1) && _Alignof(struct beltcairn_top) == 1);
+ABI(4, SIZE(holds, 32) && AT(holds, sections, 0, 8) && AT(holds, threads, 8, 8) && AT(holds, count, 16, 8) && AT(holds, top, 24, 2));
+ABI(4, SIZE(report, 4) && AT(report, kind, 0, 1) && AT(report, operand, 2, 2));
+ABI(4, SIZE(reports, 112) && AT(reports, items, 0, 100) && AT(reports, count, 104, 8));
+ABI(4, SIZE(arming, 4) && AT(arming, stage, 0, 1) && AT(arming, timer, 1, 1) && AT(arming, start, 2, 2));
+ABI(4, SIZE(timers, 52) && AT(timers, expiries, 0, 32) && AT(timers, periods, 32, 16) && AT(timers, arming, 48, 4));
+ABI(4, SIZE(machine, 288) && AT(machine, plan, 0, 64) && AT(machine, tick, 64, 4) && AT(machine, slots, 72, 16));
+ABI(4, AT(machine, wakes, 88, 64) && AT(machine, queue, 152, 16) && AT(machine, holds, 168, 32) && AT(machine, waits, 200, 16));
+ABI(4, AT(machine, delays, 216, 16) && AT(machine, reported, 232, 1) && AT(machine, timers, 236, 52));
+ABI(4, SIZE(state, 408) && AT(state, machine, 0, 288) && AT(state, due, 288, 112) && AT(state, given, 400, 8));
+ABI(4, SIZE(watch, 416) && AT(watch, state, 0, 408) && AT(watch, rule, 408, 1) && _Alignof(struct beltcairn_watch) == 8);
+ABI(4, TYPE(abi, uint32_t (*)(void)));
+ABI(4, TYPE(check, uint8_t (*)(const uint8_t *, size_t, const uint8_t *, size_t, uint64_t *, uint64_t *)));
+ABI(4, TYPE(bench, uint8_t (*)(const uint8_t *, size_t, const uint8_t *, size_t, uint8_t *, size_t, uint64_t *)));
+ABI(4, TYPE(begin, uint8_t (*)(const uint8_t *, size_t, struct beltcairn_watch *)));
+ABI(4, TYPE(step, uint8_t (*)(struct beltcairn_watch *, uint8_t, uint16_t, uint64_t *)));
 
 /* The linked library has the header's number. */
 static void one_interface(void)
@@ -114,6 +115,7 @@ static void largest_plan(void)
         EXPECT("largest plan", m->plan.bases[i] == i + 1 && m->plan.needs[i] == 1 << i && is_in(m, (size_t)i, DORMANT));
     }
     EXPECT("largest plan", m->tick == 0 && m->queue.count == 0 && m->holds.count == 0 && m->waits.count == 0 && m->delays.count == 0);
+    EXPECT("largest plan", has_top(&watch, NOBODY_OWNS, 0));
     EXPECT("largest plan", m->reported == NOBODY_REPORTED && watch.state.due.count == 0 && watch.state.given == 0 && watch.rule == 0);
 }
 
@@ -207,6 +209,7 @@ struct beltcairn_watch made(void)
     m->wakes[1] = 9;
     m->queue.count = 1;
     m->holds.count = 1;
+    m->holds.top = (struct beltcairn_top){0, 3};
     m->waits.items = 2;
     m->waits.count = 1;
     m->delays.items = 1;
@@ -275,7 +278,7 @@ static void ill_formed_states(void)
     ILL(watch.state.machine.plan.threads = 17);
     ILL(watch.state.machine.plan.sections = SIZE_MAX);
     ILL(watch.state.machine.plan.bases[1] = 65);
-    ILL(watch.state.machine.plan.needs[2] = 2);
+    ILL(watch.state.machine.plan.needs[2] = 3);
     ILL(watch.state.machine.tick = 4000000001u);
     ILL(watch.state.machine.wakes[1] = 4000065537u);
     ILL(watch.state.machine.slots.states = 0x341); /* thread 1 in no condition */
@@ -293,8 +296,8 @@ static void ill_formed_states(void)
     ILL(watch.state.machine.waits.count = 17);
     ILL(watch.state.machine.holds.count = 2); /* section 0 twice */
     ILL(watch.state.machine.holds.count = 17);
-    ILL(watch.state.machine.holds.sections = 1);
-    ILL(watch.state.machine.holds.threads = 3);
+    ILL((watch.state.machine.holds.sections = 1, watch.state.machine.holds.top.ceiling = 0)); /* no thread needs section 1 */
+    ILL((watch.state.machine.holds.threads = 3, watch.state.machine.holds.top.owner = 3));
     ILL(watch.state.machine.reported = 3);
     ILL(watch.state.due.count = 1); /* a report of kind 0 */
     ILL(watch.state.due.count = SIZE_MAX);

@@ -10,7 +10,7 @@ use Rattle.plan.specs.View.{Fits}
 use Rattle.lists.specs.Words.{nibble}
 use Rattle.lists.specs.Lists.{queued}
 use Rattle.machine.specs.declared.Machine.{Machine}
-use Rattle.lists.specs.Choice.{Counts}
+use Rattle.machine.specs.Contracts.{Counts}
 
 -- a list names a thread once if the number of its condition is one of these, and else not at all
 abbrev pub namesBy : (list : List ℕ) (least most state thread : ℕ) → Bool

@@ -6,7 +6,7 @@ use mathlib.Core.List.{List, [], _∷_, _++_, append-assoc, append-nil}
 use mathlib.Core.Option.{Option, none, some, Option·map}
 use Prim.Native.Nat.{ℕ, zero, suc, _+_, _-_, _/_, _%_, _≤_, _<_}
 use native.Mathlib.Omega.{arith}
-use borrow.Author.Tests.{lt-ltb, le-ltb}
+use borrow.Author.Tests.{ne-eqb, lt-ltb, le-ltb}
 use lib.Dec.{T, eqb, ltb, ltb→lt, nltb→le}
 use lib.ListN.{length}
 use Rattle.model.specs.Searches.{all, any, filter, better, firstGreatest}
@@ -15,7 +15,8 @@ use Rattle.model.specs.State.{hold}
 use Rattle.model.specs.Formed.{times}
 use Rattle.model.proofs.Tests.{split, is-true, is-false}
 use Rattle.lists.specs.Words.{withNibble, inFront, nibbles}
-use Rattle.lists.specs.Lists.{numbered, heldIn}
+use Rattle.keeping.specs.Top.{Top, walkBy}
+use Rattle.lists.specs.Lists.{heldIn, topOf}
 use Rattle.lists.proofs.Words.{set-behind, front-kept}
 
 module _ {A : Type 0} where
@@ -143,38 +144,49 @@ section-times s (suc n) ss ts = go (eqb (ss % 16) s) (section-times s n (ss / 16
     go true e = ap suc e
     go false e = e
 
--- the number of a hold's thread, 255 of none
-abbrev threadOf : Option state.Hold → ℕ
-threadOf o = numbered (Option·map (λ (h : state.Hold). h .thread) o)
+-- of the first two holds only the one of greater ceiling matters, on a tie the first
+module _ (f : state.Hold → ℕ) (a b : state.Hold) (l : List state.Hold) where
+  pair-of : {o o' : Option state.Hold} {n n' : ℕ} → o ≡ o' → n ≡ n' → _≡_ {A = Top} (record { owner = Option·map (λ (h : state.Hold). h .thread) o; ceiling = n }) (record { owner = Option·map (λ (h : state.Hold). h .thread) o'; ceiling = n' })
+  pair-of e d i = record { owner = Option·map (λ (h : state.Hold). h .thread) (e i); ceiling = d i }
+
+  top-later : f a < f b → walkBy f (a ∷ b ∷ l) ≡ walkBy f (b ∷ l)
+  unfolding walkBy
+  top-later k = pair-of (best-later f a b l k) (omega arith)
+
+  top-earlier : f b ≤ f a → walkBy f (a ∷ b ∷ l) ≡ walkBy f (a ∷ l)
+  unfolding walkBy
+  top-earlier k = pair-of (best-earlier f a b l k) (omega arith)
 
 -- a loop that keeps the owner so far and its ceiling; a thread's number is below 255, which stands for none yet
 module _ (f : state.Hold → ℕ) (l : List state.Hold) where
-  abbrev pub OwnerLeft : (n ss ts who top : ℕ) → Type 0
-  OwnerLeft n ss ts who top =
-      ((who ≡ 255) × (firstGreatest f (heldIn n ss ts) ≡ firstGreatest f l))
-      ⊎ ((h : state.Hold) × (h .thread ≡ who) × (who < 255) × (f h ≡ top) × (firstGreatest f (h ∷ heldIn n ss ts) ≡ firstGreatest f l))
+  abbrev pub TopLeft : (n ss ts owner top : ℕ) → Type 0
+  TopLeft n ss ts owner top =
+      ((owner ≡ 255) × (top ≡ 0) × (walkBy f (heldIn n ss ts) ≡ walkBy f l))
+      ⊎ ((h : state.Hold) × (h .thread ≡ owner) × (owner < 255) × (f h ≡ top) × (walkBy f (h ∷ heldIn n ss ts) ≡ walkBy f l))
 
-  module _ (n ss ts who top : ℕ) (k : 0 < n) where
-    pub owner-new : OwnerLeft n ss ts who top → (who ≡ 255) ⊎ (top < f (firstHold ss ts)) → OwnerLeft (n - 1) (ss / 16) (ts / 16) (ts % 16) (f (firstHold ss ts))
-    owner-new (inl (w, e)) g = inr (firstHold ss ts, refl, omega arith, refl, sym (turn (firstGreatest f) n ss ts k) ∙ e)
-    owner-new (inr (h, w, b, v, e)) (inl g) = absurd (omega arith)
-    owner-new (inr (h, w, b, v, e)) (inr g) =
+  module _ (n ss ts owner top : ℕ) (k : 0 < n) where
+    pub top-new : TopLeft n ss ts owner top → (owner ≡ 255) ⊎ (top < f (firstHold ss ts)) → TopLeft (n - 1) (ss / 16) (ts / 16) (ts % 16) (f (firstHold ss ts))
+    top-new (inl (w, z, e)) g = inr (firstHold ss ts, refl, omega arith, refl, sym (turn (walkBy f) n ss ts k) ∙ e)
+    top-new (inr (h, w, b, v, e)) (inl g) = absurd (omega arith)
+    top-new (inr (h, w, b, v, e)) (inr g) =
         inr (
           firstHold ss ts,
           refl,
           omega arith,
           refl,
-          sym (turn (λ r. firstGreatest f (h ∷ r)) n ss ts k ∙ best-later f h (firstHold ss ts) (heldIn (n - 1) (ss / 16) (ts / 16)) (omega arith)) ∙ e,
+          sym (turn (λ r. walkBy f (h ∷ r)) n ss ts k ∙ top-later f h (firstHold ss ts) (heldIn (n - 1) (ss / 16) (ts / 16)) (omega arith)) ∙ e,
         )
 
-    pub owner-stays : OwnerLeft n ss ts who top → who ≢ 255 → f (firstHold ss ts) ≤ top → OwnerLeft (n - 1) (ss / 16) (ts / 16) who top
-    owner-stays (inl (w, e)) d g = absurd (d w)
-    owner-stays (inr (h, w, b, v, e)) d g =
-        inr (h, w, b, v, sym (turn (λ r. firstGreatest f (h ∷ r)) n ss ts k ∙ best-earlier f h (firstHold ss ts) (heldIn (n - 1) (ss / 16) (ts / 16)) (omega arith)) ∙ e)
+    pub top-stays : TopLeft n ss ts owner top → owner ≢ 255 → f (firstHold ss ts) ≤ top → TopLeft (n - 1) (ss / 16) (ts / 16) owner top
+    top-stays (inl (w, z, e)) d g = absurd (d w)
+    top-stays (inr (h, w, b, v, e)) d g =
+        inr (h, w, b, v, sym (turn (λ r. walkBy f (h ∷ r)) n ss ts k ∙ top-earlier f h (firstHold ss ts) (heldIn (n - 1) (ss / 16) (ts / 16)) (omega arith)) ∙ e)
 
-  pub owner-found : (n ss ts who top : ℕ) → n ≤ 0 → OwnerLeft n ss ts who top → who ≡ threadOf (firstGreatest f l)
-  owner-found n ss ts who top k (inl (w, e)) = w ∙ ap threadOf (sym (done (firstGreatest f) n ss ts k) ∙ e)
-  owner-found n ss ts who top k (inr (h, w, b, v, e)) = sym w ∙ ap threadOf (sym (done (λ r. firstGreatest f (h ∷ r)) n ss ts k) ∙ e)
+  pub top-found : (n ss ts owner top : ℕ) → n ≤ 0 → TopLeft n ss ts owner top → topOf (record { owner = owner; ceiling = top }) ≡ walkBy f l
+  unfolding walkBy
+  top-found n ss ts owner top k (inl (w, z, e)) = rw (w, z) (sym (done (walkBy f) n ss ts k) ∙ e)
+  top-found n ss ts owner top k (inr (h, w, b, v, e)) =
+      rw (ne-eqb owner 255 (λ z. omega arith), ← w, ← v) (ap (λ (c : ℕ). record { owner = some (h .thread); ceiling = c }) (omega arith) ∙ sym (done (λ r. walkBy f (h ∷ r)) n ss ts k) ∙ e)
 
 -- sections and threads, one hold for each two
 abbrev pairs : (sections threads : List ℕ) → List state.Hold

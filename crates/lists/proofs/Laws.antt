@@ -19,8 +19,6 @@ pub use Rattle.lists.proofs.Words.{zero-nibble, read-set, read-other, s
 pub use Rattle.lists.proofs.Queues.{filter-kept, filter-dropped}
 -- a word has as many numbers that pass a test as are counted, at most
 pub use Rattle.lists.proofs.Queues.{times-within}
--- while nobody waits every thread has its base
-pub use Rattle.lists.proofs.Current.{unwaited}
 -- numbers for threads, and back
 pub use Rattle.lists.proofs.Numbered.{numbered-threadOf, threadOf-numbered, number-is}
 

@@ -6,7 +6,9 @@ use Prim.Native.Nat.{ℕ, zero, suc, _/_, _%_, _<_, max}
 use lib.Dec.{eqb}
 use lib.ListN.{getD}
 use Rattle.model.specs.State as state
+use Rattle.keeping.specs.Top as keeping
 use Rattle.lists.specs.declared.queue.Queue.{Queue}
+use Rattle.lists.specs.declared.top.Top.{Top}
 use Rattle.lists.specs.declared.holds.Holds.{Holds}
 use Rattle.lists.specs.Words.{nibbles, entryOf}
 
@@ -29,6 +31,10 @@ heldIn (suc n) ss ts = state.hold (ss % 16) (ts % 16) ∷ heldIn n (ss / 16) (ts
 
 abbrev pub held : Holds → List state.Hold
 held hs = heldIn (hs .count) (hs .sections) (hs .threads)
+
+-- the owner with its ceiling
+abbrev pub topOf : Top → keeping.Top
+topOf k = record { owner = threadOf (k .owner); ceiling = k .ceiling }
 
 -- the ceiling of a held section, from the ceilings of all sections
 abbrev pub ceilingIn : (ceilings : List ℕ) → state.Hold → ℕ

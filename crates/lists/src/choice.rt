@@ -3,8 +3,8 @@ ghost use mathlib.Core.Path.{_≡_};
 ghost use Prim.Native.Nat.{_≤_, _<_};
 ghost use Rattle.model.specs.Searches.{firstGreatest};
 ghost use Rattle.lists.specs.Words.{entryOf};
-ghost use Rattle.lists.specs.Lists.{numbered, queued, held, Positive};
-ghost use Rattle.lists.specs.Choice.{chosenIn, rivalledIn, inheritsIn, Counts};
+ghost use Rattle.lists.specs.Lists.{numbered, threadOf, queued, held, Positive};
+ghost use Rattle.lists.specs.Choice.{chosenIn, rivalledIn, inheritsIn};
 use crate::holds::Holds;
 use crate::queue::Queue;
 
@@ -14,44 +14,21 @@ pub struct Heir {
     pub free: bool,
 }
 
-// The first in the queue of greatest current priority, 255 for nobody. While nobody waits the owner has its base.
-pub fn chosen_of(
-    bases: [u8; 16],
-    ceilings: &[u8; 16],
-    queue: Queue,
-    holds: Holds,
-    waits: Queue,
-) -> u8
-    requires { ⌜ Counts queue holds waits × Positive bases (queued queue) ⌝ }
-    ensures { λ r. ⌜ r ≡ numbered (chosenIn (entryOf bases) (now (ceilings .entry)) (queued queue) (held holds) (queued waits)) ⌝ }
+// The first in the queue of greatest current priority, 255 for nobody. The owner is the one kept beside the holds.
+pub fn chosen_of(bases: [u8; 16], queue: Queue, owner: u8, waits: Queue) -> u8
+    requires { ⌜ (queue .count ≤ 16) × (waits .count ≤ 16) × Positive bases (queued queue) ⌝ }
+    ensures { λ r. ⌜ r ≡ numbered (chosenIn (entryOf bases) (threadOf owner) (queued queue) (queued waits)) ⌝ }
 {
-    let mut owner: u8 = 255;
-    let mut urgency: u8 = 0;
-    if 0 < waits.count {
-        owner = holds.owner(ceilings);
-        urgency = waits.urgency(bases);
-    }
+    let urgency = waits.urgency(bases);
     queue.chosen(bases, owner, urgency)
 }
 
 // Whether another ready thread has this thread's current priority.
-pub fn rivalled_of(
-    bases: [u8; 16],
-    ceilings: &[u8; 16],
-    queue: Queue,
-    holds: Holds,
-    waits: Queue,
-    thread: u8,
-) -> bool
-    requires { ⌜ Counts queue holds waits × (thread < 16) ⌝ }
-    ensures { λ r. ⌜ r ≡ rivalledIn (entryOf bases) (now (ceilings .entry)) (queued queue) (held holds) (queued waits) thread ⌝ }
+pub fn rivalled_of(bases: [u8; 16], queue: Queue, owner: u8, waits: Queue, thread: u8) -> bool
+    requires { ⌜ (queue .count ≤ 16) × (waits .count ≤ 16) × (thread < 16) ⌝ }
+    ensures { λ r. ⌜ r ≡ rivalledIn (entryOf bases) (threadOf owner) (queued queue) (queued waits) thread ⌝ }
 {
-    let mut owner: u8 = 255;
-    let mut urgency: u8 = 0;
-    if 0 < waits.count {
-        owner = holds.owner(ceilings);
-        urgency = waits.urgency(bases);
-    }
+    let urgency = waits.urgency(bases);
     queue.rivalled(bases, owner, urgency, thread)
 }
 

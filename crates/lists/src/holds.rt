@@ -1,27 +1,30 @@
-// Who holds which section, in order of taking.
+// Who holds which section, in order of taking, and the owner.
 ghost use mathlib.Core.Path.{_≡_};
 ghost use mathlib.Core.Bool.{not, _&&_};
 ghost use mathlib.Core.List.{[], _∷_};
-ghost use mathlib.Core.Option.{Option·map};
+ghost use mathlib.Core.Option.{none};
 ghost use Prim.Native.Nat.{_≤_, _<_};
 ghost use lib.Dec.{ltb};
-ghost use Rattle.model.specs.Searches.{all, filter, firstGreatest};
-ghost use Rattle.model.specs.State as state;
+ghost use Rattle.model.specs.Searches.{all, filter};
 ghost use Rattle.model.specs.State.{hold, isHold};
 ghost use Rattle.model.specs.Calls.{heldByOthers};
 ghost use Rattle.model.specs.Rules.{holdsNone, holdsNot, lastTaken};
 ghost use Rattle.model.specs.Formed.{holdInRange, times, heldOnce};
+ghost use Rattle.keeping.specs.Top.{walkBy, gained};
 ghost use Rattle.lists.specs.Words.{inFront};
-ghost use Rattle.lists.specs.Lists.{numbered, held, ceilingIn};
+ghost use Rattle.lists.specs.Lists.{numbered, held, ceilingIn, topOf};
 use crate::nibbles::nibble_at;
 use crate::nibbles::with_nibble;
+use crate::top::Top;
 
-// Sections and the threads that hold them, the latest in the lowest four bits; bits at `count` and above mean nothing.
+// Sections and the threads that hold them, the latest in the lowest four bits; bits at `count` and above mean nothing. `top` has the owner, so that
+// nobody need walk to find it.
 #[repr(C)]
 pub struct Holds {
     pub sections: u64,
     pub threads: u64,
     pub count: usize,
+    pub top: Top,
 }
 
 // The word with one more number in front; the last of sixteen goes.
@@ -35,42 +38,64 @@ fn in_front(word: u64, value: u8) -> u64
 
 impl Holds {
     pub fn none() -> Holds
-        ensures { λ r. ⌜ held r ≡ [] ⌝ }
+        ensures { λ r. ⌜ (held r ≡ []) × (topOf (r .top) ≡ record { owner = none; ceiling = 0 }) ⌝ }
     {
         Holds {
             sections: 0,
             threads: 0,
             count: 0,
+            top: Top {
+                owner: 255,
+                ceiling: 0,
+            },
         }
     }
 
-    // One more, taken last.
-    pub fn push(self, section: u8, thread: u8) -> Holds
+    // One more, taken last, of a section of this ceiling.
+    pub fn push(self, section: u8, thread: u8, ceiling: u8) -> Holds
         requires { ⌜ (self .count < 16) × (section < 16) × (thread < 16) ⌝ }
-        ensures { λ r. ⌜ held r ≡ hold section thread ∷ held self ⌝ }
+        ensures { λ r. ⌜ (held r ≡ hold section thread ∷ held self) × (topOf (r .top) ≡ gained ceiling thread (topOf (self .top))) ⌝ }
     {
         let sections = in_front(self.sections, section);
         let threads = in_front(self.threads, thread);
+        let count = self.count + 1;
+        let top = self.top.gained(ceiling, thread);
         Holds {
             sections,
             threads,
-            count: self.count + 1,
+            count,
+            top,
         }
     }
 
-    // The hold of this section by this thread ends; the others stay in their order. It is the latest hold of all in every run.
-    pub fn without(self, section: u8, thread: u8) -> Holds
+    // The hold of this section by this thread ends; the others stay in their order. They are walked over to find the owner: in a state that came from outside it
+    // need not be the holder of the latest.
+    pub fn without(self, ceilings: &[u8; 16], section: u8, thread: u8) -> Holds
+        requires { ⌜ (self .count ≤ 16) × (times (isHold section thread) (held self) ≤ 1) ⌝ }
+        ensures { λ r. ⌜ (held r ≡ filter (λ h. not (isHold section thread h)) (held self)) × (topOf (r .top) ≡ walkBy (ceilingIn (now (ceilings .entry))) (held r)) ⌝ }
+    {
+        let mut left = self.ended(section, thread);
+        let top = left.walk(ceilings);
+        left.top = top;
+        left
+    }
+
+    // All but the hold of this section by this thread, which is the latest of all in every run. The owner stays as it was.
+    fn ended(self, section: u8, thread: u8) -> Holds
         requires { ⌜ (self .count ≤ 16) × (times (isHold section thread) (held self) ≤ 1) ⌝ }
         ensures { λ r. ⌜ held r ≡ filter (λ h. not (isHold section thread h)) (held self) ⌝ }
     {
         let s = (self.sections % 16) as u8;
         let t = (self.threads % 16) as u8;
+        let top = self.top;
         if 0 < self.count {
             if s == section && t == thread {
+                let count = self.count - 1;
                 return Holds {
                     sections: self.sections / 16,
                     threads: self.threads / 16,
-                    count: self.count - 1,
+                    count,
+                    top,
                 };
             }
         }
@@ -82,6 +107,7 @@ impl Holds {
         requires { ⌜ self .count ≤ 16 ⌝ }
         ensures { λ r. ⌜ held r ≡ filter (λ h. not (isHold section thread h)) (held self) ⌝ }
     {
+        let top = self.top;
         let mut ss = self.sections;
         let mut ts = self.threads;
         let mut left = self.count;
@@ -104,19 +130,20 @@ impl Holds {
             sections,
             threads,
             count: n,
+            top,
         }
     }
 
-    // The thread holding the section of greatest ceiling, on a tie the one taken later; 255 if nothing is held.
-    pub fn owner(self, ceilings: &[u8; 16]) -> u8
+    // The owner and the greatest held ceiling, found by a walk: see keeping, Top.walk.
+    pub fn walk(self, ceilings: &[u8; 16]) -> Top
         requires { ⌜ self .count ≤ 16 ⌝ }
-        ensures { λ r. ⌜ r ≡ numbered (Option·map (λ (h : state.Hold). h .thread) (firstGreatest (ceilingIn (now (ceilings .entry))) (held self))) ⌝ }
+        ensures { λ r. ⌜ topOf r ≡ walkBy (ceilingIn (now (ceilings .entry))) (held self) ⌝ }
     {
         let all = *ceilings;
         let mut ss = self.sections;
         let mut ts = self.threads;
         let mut left = self.count;
-        let mut who: u8 = 255;
+        let mut owner: u8 = 255;
         let mut top: u8 = 0;
         while 0 < left {
             let s = (ss % 16) as usize;
@@ -125,12 +152,15 @@ impl Holds {
             ts = ts / 16;
             left -= 1;
             let c = all[s];
-            if who == 255 || top < c {
-                who = t;
+            if owner == 255 || top < c {
+                owner = t;
                 top = c;
             }
         }
-        who
+        Top {
+            owner,
+            ceiling: top,
+        }
     }
 
     // Whether a base priority is above every ceiling held by others than this thread.

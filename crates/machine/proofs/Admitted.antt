@@ -1,5 +1,5 @@
 -- What is asked of the machine of each call, what its rules say where it breaks none, and what it makes before its Switch.
-use mathlib.Core.Path.{_≡_, refl, ap, ap₂, sym, _∙_}
+use mathlib.Core.Path.{_≡_, refl, ap, ap₂, sym, subst, _∙_}
 use mathlib.Core.List.{[]}
 use mathlib.Core.Option.{Option, some}
 use Prim.Native.Nat.{ℕ, _<_}
@@ -17,6 +17,7 @@ use Rattle.machine.specs.declared.Machine.{Machine}
 use Rattle.due.specs.declared.reports.Reports.{Reports}
 use Rattle.due.specs.Lists.{owed}
 use Rattle.machine.specs.View.{planOf, viewed, idle}
+use Rattle.machine.specs.Kept.{kept}
 use Rattle.machine.specs.Rules.{ruleNumber}
 use Rattle.machine.proofs.Facts.{Formed}
 
@@ -74,28 +75,30 @@ asked m k = ruleNumber (broken (planOf m) (idle m) (call k))
 pub record Meets (left : Machine) (rs : Reports) (m : Machine) (st : state.State) : Type 0 where
   pub plan' : left .plan ≡ m .plan
   pub seen : viewed left (owed rs) ≡ st
+  pub keeps : T (kept left)
 
 -- The first broken rule, 0 if there is none; then what the model's call makes of the state that came, or this state.
 pub record MakesOf (st : state.State) (left : Machine) (rs : Reports) (rule : ℕ) (m : Machine) (k : Call) : Type 0 where
   pub plan' : left .plan ≡ m .plan
   pub rule' : rule ≡ ruleNumber (broken (planOf m) st (call k))
   pub made : rule ≡ 0 → viewed left (owed rs) ≡ perform (planOf m) k st
-  pub kept : (rule ≡ 0 → ⊥) → viewed left (owed rs) ≡ st
+  pub stays : (rule ≡ 0 → ⊥) → viewed left (owed rs) ≡ st
+  pub keeps : T (kept left)
 
 -- calls other than Tick come with nothing due
 abbrev pub Makes : (left : Machine) (rs : Reports) (rule : ℕ) (m : Machine) (k : Call) → Type 0
 Makes left rs rule m k = MakesOf (idle m) left rs rule m k
 
 same : {left left' : Machine} {rs rs' : Reports} {m : Machine} {st : state.State} → left ≡ left' → rs ≡ rs' → Meets left' rs' m st → Meets left rs m st
-same a b w = record { plan' = ap (λ (x : Machine). x .plan) a ∙ w .plan'; seen = ap₂ (λ (x : Machine) (l : Reports). viewed x (owed l)) a b ∙ w .seen }
+same a b w = record { plan' = ap (λ (x : Machine). x .plan) a ∙ w .plan'; seen = ap₂ (λ (x : Machine) (l : Reports). viewed x (owed l)) a b ∙ w .seen; keeps = subst (λ (x : Machine). T (kept x)) (sym a) (w .keeps) }
 
 -- a call that breaks no rule, and one that does, which leaves the machine and no report; on either way both are those named last
 module _ {left : Machine} {rs rs' : Reports} {rule : ℕ} {m : Machine} {k : Call} (e : rule ≡ asked m k) where
   pub admits : {left' : Machine} {st : state.State} → perform (planOf m) k (idle m) ≡ st → rule ≡ 0 → left ≡ left' → rs ≡ rs' → Meets left' rs' m st → Makes left rs rule m k
-  admits q z a b w = let v = same a b w in record { plan' = v .plan'; rule' = e; made = λ k. v .seen ∙ sym q; kept = λ d. absurd (d z) }
+  admits q z a b w = let v = same a b w in record { plan' = v .plan'; rule' = e; made = λ k. v .seen ∙ sym q; stays = λ d. absurd (d z); keeps = v .keeps }
 
-  pub refuses : (rule ≡ 0 → ⊥) → left ≡ m → rs ≡ rs' → owed rs' ≡ [] → Makes left rs rule m k
-  refuses d a b n = let v = same {m = m} a b (record { plan' = refl; seen = ap (viewed m) n }) in record { plan' = v .plan'; rule' = e; made = λ z. absurd (d z); kept = λ k. v .seen }
+  pub refuses : T (kept m) → (rule ≡ 0 → ⊥) → left ≡ m → rs ≡ rs' → owed rs' ≡ [] → Makes left rs rule m k
+  refuses t d a b n = let v = same {m = m} a b (record { plan' = refl; seen = ap (viewed m) n; keeps = t }) in record { plan' = v .plan'; rule' = e; made = λ z. absurd (d z); stays = λ k. v .seen; keeps = v .keeps }
 
 -- what the model's call of the chosen thread does
 pub by : {m : Machine} {x : ℕ} → Runs m x → (act : ℕ → state.State → state.State) → byCaller (chosen (planOf m) (idle m)) act (idle m) ≡ act x (idle m)

@@ -27,7 +27,7 @@ use Rattle.lists.specs.Lists.{queued, held}
 use Rattle.due.specs.Lists.{reportRoom}
 use Rattle.due.proofs.Laws.{length-owed}
 use Rattle.machine.specs.View.{planOf, viewed, idle}
-use Rattle.machine.specs.Contracts.{Ceilings, Chooses}
+use Rattle.machine.specs.Contracts.{Chooses}
 use Rattle.machine.proofs.Admitted.{TickAsked, Creates, Runs, Takes, Gives, Meets}
 use Rattle.machine.proofs.Switched.{Settles}
 use Rattle.machine.proofs.Facts.{Formed, Facts, facts}
@@ -242,8 +242,8 @@ module _ {m left : Machine} {rs : Reports} {st : State} (f : Facts m) (k : Meets
   plan-kept = ap plans.view (k .plan')
 
   -- it has what finding the chosen thread asks
-  chooses : (ceilings : List ℕ) → Ceilings m ceilings → Chooses left ceilings
-  chooses ceilings c =
+  chooses : Chooses left
+  chooses =
       let same : left .plan .threads ≡ m .plan .threads = ap (λ (p : Plan). p .threads) (k .plan') in
       record {
         valid = subst (λ p. T (validPlan p)) (sym plan-kept) (f .valid);
@@ -259,14 +259,14 @@ module _ {m left : Machine} {rs : Reports} {st : State} (f : Facts m) (k : Meets
               known = λ t i. omega (arith, same, a .known t (subst (λ (l : List ℕ). Mem t l) (ap (λ (z : State). z .queue) (k .seen)) i));
               waiting' = λ t i. omega (arith, same, a .waiting' t (subst (λ (l : List ℕ). Mem t l) (ap (λ (z : State). z .waits) (k .seen)) i));
             };
-        ceilings' = λ h. c ∙ ap (λ p. map (ceiling p) (upTo 16)) (sym plan-kept);
+        keeps = k .keeps;
       }
 
   -- and what the Switch asks
-  pub settles : (ceilings : List ℕ) → Ceilings m ceilings → Settles left rs ceilings
-  settles ceilings c =
+  pub settles : Settles left rs
+  settles =
       record {
-        chooses = chooses ceilings c;
+        chooses = chooses;
         room = omega (arith, length-owed rs, ap (λ (z : State). length (z .due)) (k .seen), a .few);
         last = ap lastReported (k .seen) ∙ a .last ∙ sym (ap (λ (z : State). z .reported) (k .seen));
       }

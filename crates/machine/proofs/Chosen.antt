@@ -1,4 +1,4 @@
--- Who is chosen, who is rivalled, who inherits: what is read off the lists, the table of bases and the ceilings made once is the model's.
+-- Who is chosen, who is rivalled, who inherits: what is read off the lists, the owner kept, the table of bases and the ceilings made once is the model's.
 use mathlib.Core.Path.{_≡_, refl, ap, ap₂, sym, fun-ext, _∙_}
 use mathlib.Core.Logic.{_⊎_, inl, inr}
 use mathlib.Core.Bool.{cond, not, _&&_}
@@ -12,7 +12,7 @@ use Rattle.model.specs.Searches.{all, any, firstGreatest, greatest, upTo, same}
 use Rattle.model.specs.Plan.{ceiling, validPlan}
 use Rattle.model.specs.Records.{Report}
 use Rattle.model.specs.State.{Hold}
-use Rattle.model.specs.Priorities.{heldCeiling, greatestHold, current, chosen}
+use Rattle.model.specs.Priorities.{heldCeiling, owner, current, chosen}
 use Rattle.model.specs.Calls.{aboveAll, rivalled}
 use Rattle.model.proofs.Tests.{split}
 use Rattle.model.proofs.Searches.{greatest-is, any-agree, firstGreatest-agree, greatest-agree}
@@ -25,12 +25,15 @@ use Rattle.machine.specs.declared.Machine.{Machine}
 use Rattle.lists.specs.declared.queue.Queue.{Queue}
 use Rattle.lists.specs.declared.holds.Holds.{Holds}
 use Rattle.lists.specs.Words.{entryOf}
-use Rattle.lists.specs.Lists.{queued, held, ceilingIn, Positive}
-use Rattle.lists.specs.Choice.{ownerIn, priorityIn, chosenIn, rivalledIn, inheritsIn}
+use Rattle.keeping.specs.Top.{Top}
+use Rattle.keeping.proofs.Laws.{fits-walk, walk-owner}
+use Rattle.lists.specs.Lists.{threadOf, queued, held, topOf, ceilingIn, Positive}
+use Rattle.lists.specs.Choice.{priorityIn, chosenIn, rivalledIn, inheritsIn}
 use Rattle.machine.specs.View.{planOf, viewed}
+use Rattle.machine.specs.Kept.{kept}
 use Rattle.machine.specs.Contracts.{Listed, Ceilings}
 use Rattle.machine.proofs.Facts.{Facts}
-use Rattle.lists.proofs.Laws.{length-queued, queued-empty, length-held, unwaited}
+use Rattle.lists.proofs.Laws.{length-queued, length-held}
 use Rattle.machine.proofs.Room.{queued-known, waiting-known}
 
 -- the lists of a well-formed machine fit their words, and name threads
@@ -72,61 +75,46 @@ module _ (m : Machine) (v : T (validPlan (planOf m))) {ceilings : List ℕ} (c :
   pub above-is : (t : ℕ) (hs : List Hold) → all (λ h. ltb (ceilingIn ceilings h) (baseOf m t)) hs ≡ aboveAll (planOf m) t hs
   above-is t hs = ap (λ g. all (λ h. ltb (g h) (baseOf m t)) hs) ceilings-are
 
-  module _ (due : List Report) where
-    pub priority-is : (t : ℕ) → priorityIn (baseOf m) ceilings (held (m .holds)) (queued (m .waits)) t ≡ current (planOf m) (viewed m due) t
-    unfolding current greatestHold
-    priority-is t = ap (λ g. cond (same (threadOfHold (firstGreatest g (held (m .holds)))) (some t)) (max (baseOf m t) (greatest (baseOf m) (queued (m .waits)))) (baseOf m t)) ceilings-are
-      where
-        threadOfHold : Option Hold → Option ℕ
-        threadOfHold o = Option·map (λ (h : Hold). h .thread) o
+-- with the owner kept every thread has its current priority
+module _ (m : Machine) (k : T (kept m)) (due : List Report) where
+  owner-kept : threadOf (m .holds .top .owner) ≡ owner (planOf m) (viewed m due)
+  owner-kept = ap (λ (t : Top). t .owner) (fits-walk (planOf m) (held (m .holds)) (topOf (m .holds .top)) k) ∙ walk-owner (planOf m) (viewed m due)
 
-    chosen-is : chosenIn (baseOf m) ceilings (queued (m .queue)) (held (m .holds)) (queued (m .waits)) ≡ chosen (planOf m) (viewed m due)
-    unfolding chosen
-    chosen-is = ap (λ g. firstGreatest g (queued (m .queue))) (fun-ext priority-is)
+  priority-is : (t : ℕ) → priorityIn (baseOf m) (threadOf (m .holds .top .owner)) (queued (m .waits)) t ≡ current (planOf m) (viewed m due) t
+  unfolding current
+  priority-is t = ap (λ (o : Option ℕ). priorityIn (baseOf m) o (queued (m .waits)) t) owner-kept
 
-    pub rivalled-is : (x : ℕ) → rivalledIn (baseOf m) ceilings (queued (m .queue)) (held (m .holds)) (queued (m .waits)) x ≡ rivalled (planOf m) x (viewed m due)
-    rivalled-is x = ap (λ g. any (λ t. not (eqb t x) && eqb (g t) (g x)) (queued (m .queue))) (fun-ext priority-is)
+  pub chosen-by : chosenIn (baseOf m) (threadOf (m .holds .top .owner)) (queued (m .queue)) (queued (m .waits)) ≡ chosen (planOf m) (viewed m due)
+  unfolding chosen
+  chosen-by = ap (λ g. firstGreatest g (queued (m .queue))) (fun-ext priority-is)
 
--- the ceilings matter only where somebody waits
-pub chosen-by : (m : Machine) → T (validPlan (planOf m)) → {ceilings : List ℕ} → (0 < m .waits .count → Ceilings m ceilings) → (due : List Report)
-    → chosenIn (baseOf m) ceilings (queued (m .queue)) (held (m .holds)) (queued (m .waits)) ≡ chosen (planOf m) (viewed m due)
-chosen-by m v {ceilings} c due = go (split (ltb 0 (m .waits .count)))
-  where
-    all' : List ℕ
-    all' = map (ceiling (planOf m)) (upTo 16)
-
-    go : T (ltb 0 (m .waits .count)) ⊎ T (not (ltb 0 (m .waits .count))) → chosenIn (baseOf m) ceilings (queued (m .queue)) (held (m .holds)) (queued (m .waits)) ≡ chosen (planOf m) (viewed m due)
-    go (inl t) = chosen-is m v (c (ltb→lt 0 (m .waits .count) t)) due
-    go (inr t) =
-        let e : queued (m .waits) ≡ [] = queued-empty (m .waits) (omega (arith, nltb→le 0 (m .waits .count) t)) in
-        ap (chosenIn (baseOf m) ceilings (queued (m .queue)) (held (m .holds))) e
-        ∙ ap (λ g. firstGreatest g (queued (m .queue))) (fun-ext (λ u. unwaited (baseOf m) ceilings (held (m .holds)) u ∙ sym (unwaited (baseOf m) all' (held (m .holds)) u)))
-        ∙ ap (chosenIn (baseOf m) all' (queued (m .queue)) (held (m .holds))) (sym e)
-        ∙ chosen-is m v {ceilings = all'} refl due
+  pub rivalled-is : (x : ℕ) → rivalledIn (baseOf m) (threadOf (m .holds .top .owner)) (queued (m .queue)) (queued (m .waits)) x ≡ rivalled (planOf m) x (viewed m due)
+  rivalled-is x = ap (λ g. any (λ t. not (eqb t x) && eqb (g t) (g x)) (queued (m .queue))) (fun-ext priority-is)
 
 -- the table of bases gives every listed thread the base that it has in the plan
-module _ (bases ceilings : List ℕ) {threads : ℕ} {queue : Queue} {holds : Holds} {waits : Queue} (l : Listed threads queue holds waits) where
+module _ (bases : List ℕ) {threads : ℕ} {queue : Queue} {holds : Holds} {waits : Queue} (l : Listed threads queue holds waits) where
   table-at : (t : ℕ) → t < threads → entryOf bases t ≡ baseIn threads bases t
   table-at t h = sym (base-at threads bases t h)
 
-  priority-same : (t : ℕ) → t < threads → priorityIn (entryOf bases) ceilings (held holds) (queued waits) t ≡ priorityIn (baseIn threads bases) ceilings (held holds) (queued waits) t
-  priority-same t h =
-      ap₂ (λ (b u : ℕ). cond (same (ownerIn ceilings (held holds)) (some t)) (max b u) b) (table-at t h)
-      (greatest-agree (entryOf bases) (baseIn threads bases) (queued waits) (λ w i. table-at w (l .waiting' w i)))
+  module _ (owner : Option ℕ) where
+    priority-same : (t : ℕ) → t < threads → priorityIn (entryOf bases) owner (queued waits) t ≡ priorityIn (baseIn threads bases) owner (queued waits) t
+    priority-same t h =
+        ap₂ (λ (b u : ℕ). cond (same owner (some t)) (max b u) b) (table-at t h)
+        (greatest-agree (entryOf bases) (baseIn threads bases) (queued waits) (λ w i. table-at w (l .waiting' w i)))
 
-  pub chosen-same : chosenIn (entryOf bases) ceilings (queued queue) (held holds) (queued waits) ≡ chosenIn (baseIn threads bases) ceilings (queued queue) (held holds) (queued waits)
-  chosen-same =
-      firstGreatest-agree (priorityIn (entryOf bases) ceilings (held holds) (queued waits)) (priorityIn (baseIn threads bases) ceilings (held holds) (queued waits)) (queued queue)
-      (λ t i. priority-same t (l .known t i))
+    pub chosen-same : chosenIn (entryOf bases) owner (queued queue) (queued waits) ≡ chosenIn (baseIn threads bases) owner (queued queue) (queued waits)
+    chosen-same =
+        firstGreatest-agree (priorityIn (entryOf bases) owner (queued waits)) (priorityIn (baseIn threads bases) owner (queued waits)) (queued queue)
+        (λ t i. priority-same t (l .known t i))
 
-  pub rivalled-same : (x : ℕ) → x < threads → rivalledIn (entryOf bases) ceilings (queued queue) (held holds) (queued waits) x ≡ rivalledIn (baseIn threads bases) ceilings (queued queue) (held holds) (queued waits) x
-  rivalled-same x h = any-agree _ _ (queued queue) (λ t i. ap₂ (λ (a b : ℕ). not (eqb t x) && eqb a b) (priority-same t (l .known t i)) (priority-same x h))
+    pub rivalled-same : (x : ℕ) → x < threads → rivalledIn (entryOf bases) owner (queued queue) (queued waits) x ≡ rivalledIn (baseIn threads bases) owner (queued queue) (queued waits) x
+    rivalled-same x h = any-agree _ _ (queued queue) (λ t i. ap₂ (λ (a b : ℕ). not (eqb t x) && eqb a b) (priority-same t (l .known t i)) (priority-same x h))
 
   pub heir-same : firstGreatest (entryOf bases) (queued waits) ≡ firstGreatest (baseIn threads bases) (queued waits)
   heir-same = firstGreatest-agree (entryOf bases) (baseIn threads bases) (queued waits) (λ w i. table-at w (l .waiting' w i))
 
-  pub inherits-same : (hs : List Hold) → inheritsIn (entryOf bases) ceilings hs (firstGreatest (entryOf bases) (queued waits)) ≡ inheritsIn (baseIn threads bases) ceilings hs (firstGreatest (baseIn threads bases) (queued waits))
-  inherits-same hs = ap (inheritsIn (entryOf bases) ceilings hs) heir-same ∙ go (firstGreatest (baseIn threads bases) (queued waits)) refl
+  pub inherits-same : (ceilings : List ℕ) (hs : List Hold) → inheritsIn (entryOf bases) ceilings hs (firstGreatest (entryOf bases) (queued waits)) ≡ inheritsIn (baseIn threads bases) ceilings hs (firstGreatest (baseIn threads bases) (queued waits))
+  inherits-same ceilings hs = ap (inheritsIn (entryOf bases) ceilings hs) heir-same ∙ go (firstGreatest (baseIn threads bases) (queued waits)) refl
     where
       go : (o : Option ℕ) → firstGreatest (baseIn threads bases) (queued waits) ≡ o → inheritsIn (entryOf bases) ceilings hs o ≡ inheritsIn (baseIn threads bases) ceilings hs o
       go none e = refl

@@ -53,7 +53,7 @@ some-rule none rule e d = absurd (d e)
 some-rule (some n) rule e d = ap {B = Option ℕ} some (sym e)
 
 pub barred-stands : {c : Reporting} → Stands c → (rule : ℕ) → Stands (barred c rule)
-barred-stands s n = record { apart' = record { apart = s .apart' .apart }; quiet' = s .quiet' }
+barred-stands s n = record { keeps = s .keeps; apart' = record { apart = s .apart' .apart }; quiet' = s .quiet' }
 
 module _ (c : Reporting) {r : records.Record} where
   -- a broken rule
@@ -63,7 +63,7 @@ module _ (c : Reporting) {r : records.Record} where
       record {
         outcome = ap (λ b. cond b (moved (shown after)) (broke (after .rule))) (ne-eqb (after .rule) 0 d) ∙ sym (stepped p (shown c) r (some-rule (broken p (shown c) r) (after .rule) e d));
         plan' = q;
-        kept = λ k. v;
+        stays = λ k. v;
         stands' = s;
       }
 
@@ -74,11 +74,11 @@ module _ (c : Reporting) {r : records.Record} where
       record {
         outcome = ap (λ b. cond b (moved (shown after)) (broke (after .rule))) (eq-eqb (after .rule) 0 k) ∙ ap moved v ∙ sym (stepped p (shown c) r (none-broken p (shown c) r z));
         plan' = q;
-        kept = λ d. absurd (d k);
+        stays = λ d. absurd (d k);
         stands' = s;
       }
 
-module _ {c : Reporting} {ceilings : List ℕ} {r : records.Record} (a : Asks c ceilings r) where
+module _ {c : Reporting} {r : records.Record} (a : Asks c r) where
   -- a rule that the record breaks, and nothing else changed
   bars : (rule : ℕ) → rule ≡ ruleNumber (broken (planOf (c .machine)) (shown c) r) → rule ≢ 0 → Answers (barred c rule) c r
   bars rule e d = breaks c (barred c rule) refl refl e d (barred-stands (a .stands) rule)
@@ -157,6 +157,7 @@ module _ {c : Reporting} {ceilings : List ℕ} {r : records.Record} (a : Asks c 
           let p = planOf (c .machine) in
           moves c (told c reported) refl (sym compared ∙ z) refl (delivered ∙ ap (λ (x : records.Record). effect p x (shown c)) (sym e))
           (record {
+            keeps = a .stands .keeps;
             apart' = record { apart = a .stands .apart' .apart };
             quiet' = a .stands .quiet';
           })

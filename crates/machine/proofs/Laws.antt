@@ -11,14 +11,14 @@ use Rattle.model.specs.Formed.{lastTick, armingInRange, formedMachine, formed}
 use Rattle.model.proofs.Laws.{Reached, Standing, WellFormed, well-standing, well-formed, reached-formed}
 use Rattle.plan.specs.View as plans
 use Rattle.plan.specs.declared.Plan.{Plan}
-use Rattle.lists.specs.Choice.{Counts}
 use Rattle.clock.specs.View as timing
 use Rattle.machine.specs.declared.Machine.{Machine}
 use Rattle.machine.specs.declared.state.State.{State}
 use Rattle.machine.specs.declared.reporting.Reporting.{Reporting}
 use Rattle.due.specs.Lists.{noReport}
 use Rattle.machine.specs.View.{planOf, idle, view, reportAt, shown}
-use Rattle.machine.specs.Contracts.{Ceilings, Chooses}
+use Rattle.machine.specs.Kept.{kept}
+use Rattle.machine.specs.Contracts.{Counts, Ceilings, Chooses}
 use Rattle.machine.proofs.Views.{sized}
 use Rattle.machine.proofs.Facts.{facts}
 use Rattle.machine.proofs.Chosen.{listed}
@@ -63,9 +63,9 @@ lent-delays s f = delays-fit (facts (unowed (s .machine) (λ i. getD (s .due .it
 pub arming-known : (c : Reporting) → T (formed (planOf (c .machine)) (shown c)) → T (armingInRange (timing.view (c .machine .timers) .arming))
 arming-known c f = facts (unowed (c .machine) (reportAt c) (c .due) (c .given) f) .arming
 
--- of a well-formed machine the chosen thread can be asked for, with the ceilings of its plan where somebody waits
-pub asks-chosen : (m : Machine) (ceilings : List ℕ) → T (formedMachine (planOf m) (idle m)) → (0 < m .waits .count → Ceilings m ceilings) → Chooses m ceilings
-asks-chosen m ceilings f c = let k = facts {m = m} (record { passes = f }) in record { valid = k .valid; listed = listed k; ceilings' = c }
+-- of a well-formed machine with the owner kept the chosen thread can be asked for
+pub asks-chosen : (m : Machine) → T (formedMachine (planOf m) (idle m)) → T (kept m) → Chooses m
+asks-chosen m f t = let k = facts {m = m} (record { passes = f }) in record { valid = k .valid; listed = listed k; keeps = t }
 
 -- the ceilings made once of a plan are those that every state carrying it asks for
 pub ceilings-of : (m : Machine) (p : Plan) (ceilings : List ℕ) → m .plan ≡ p → ceilings ≡ map (model.ceiling (plans.view p)) (upTo 16) → Ceilings m ceilings

@@ -5,6 +5,7 @@ mod Views
 mod Facts
 mod Admitted
 mod Room
+mod Keeping
 mod Chosen
 mod Meets
 mod Switched

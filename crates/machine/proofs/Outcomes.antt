@@ -69,45 +69,45 @@ module _ (m : Machine) (rs : Reports) (rule who : ℕ) (quiet : Tick) where
     last-apart h = record { apart = inr (ap (λ b. cond b (rs .count + 1) (rs .count)) e, h) }
 
 -- what each call asks of the machine, with nothing due
-module _ {c : Reporting} {ceilings : List ℕ} where
-  pub comes-idle : {k : Call} → Calls c ceilings k → shown c ≡ idle (c .machine)
+module _ {c : Reporting} where
+  pub comes-idle : {k : Call} → Calls c k → shown c ≡ idle (c .machine)
   comes-idle a = ap (viewed (c .machine)) (none-due (reportAt c) (c .due) (c .given) (a .undue))
 
-  formed-idle : {r : records.Record} → Asks c ceilings r → Formed (c .machine)
+  formed-idle : {r : records.Record} → Asks c r → Formed (c .machine)
   formed-idle a = unowed (c .machine) (reportAt c) (c .due) (c .given) (a .formed')
 
-  pub create-asked : {t : ℕ} → Calls c ceilings (records.Create t) → CreateAsked (c .machine) t
+  pub create-asked : {t : ℕ} → Calls c (records.Create t) → CreateAsked (c .machine) t
   create-asked {t} a = record { formed = formed-idle (a .asks); ordered = a .ordered; known = omega (arith, ltb→lt t (threads (planOf (c .machine))) (a .asks .allowed'), threads-view (c .machine .plan)) }
 
   -- with nothing due the chosen thread is the one reported
-  reported-chosen : {k : Call} → Calls c ceilings k → threadOf (c .machine .reported) ≡ chosen (planOf (c .machine)) (idle (c .machine))
+  reported-chosen : {k : Call} → Calls c k → threadOf (c .machine .reported) ≡ chosen (planOf (c .machine)) (idle (c .machine))
   reported-chosen a =
       let m = c .machine in
       let st = shown c in
       well-formed (planOf m) st (sized m) (a .asks .formed') .shown' (none-due (reportAt c) (c .due) (c .given) (a .undue)) ∙ chosen-due (planOf m) m (st .due)
 
-  pub caller-asked : {k : Call} → Calls c ceilings k → Asked (c .machine) (c .machine .reported) (callPlace k)
+  pub caller-asked : {k : Call} → Calls c k → Asked (c .machine) (c .machine .reported) (callPlace k)
   caller-asked a = record { formed = formed-idle (a .asks); ordered = a .ordered; caller' = sym (numbered-threadOf (c .machine .reported)) ∙ ap numbered (reported-chosen a) }
 
-  pub take-asked : {n : ℕ} → Calls c ceilings (records.Take n) → SectionAsked (c .machine) (c .machine .reported) n
+  pub take-asked : {n : ℕ} → Calls c (records.Take n) → SectionAsked (c .machine) (c .machine .reported) n
   take-asked {n} a = record { asked = caller-asked a; known = ltb→lt n (c .machine .plan .sections) (a .asks .allowed') }
 
-  pub give-asked : {n : ℕ} → Calls c ceilings (records.Give n) → SectionAsked (c .machine) (c .machine .reported) n
+  pub give-asked : {n : ℕ} → Calls c (records.Give n) → SectionAsked (c .machine) (c .machine .reported) n
   give-asked {n} a = record { asked = caller-asked a; known = ltb→lt n (c .machine .plan .sections) (a .asks .allowed') }
 
   -- a Delay's wait has two bytes
-  pub short-wait : {n : ℕ} → Calls c ceilings (records.Delay n) → n ≤ 65535
+  pub short-wait : {n : ℕ} → Calls c (records.Delay n) → n ≤ 65535
   short-wait {n} a = leb→le n 65535 (and-right (leb 1 n) (leb n 65535) (a .asks .allowed'))
 
-  pub tick-asked : Ticks c ceilings → TickAsked (c .machine)
+  pub tick-asked : Ticks c → TickAsked (c .machine)
   tick-asked a = record { formed = formed-idle (a .asks); ordered = a .ordered; room = a .asks .tick' refl }
 
   -- what has a claim on the room for reports finds it
-  pub claims-room : {r : records.Record} → Asks c ceilings r → claims (shown c) ≤ c .machine .plan .threads + 9
+  pub claims-room : {r : records.Record} → Asks c r → claims (shown c) ≤ c .machine .plan .threads + 9
   claims-room a = omega (arith, well-formed (planOf (c .machine)) (shown c) (sized (c .machine)) (a .formed') .room, threads-view (c .machine .plan))
 
   -- a call that breaks no rule leaves enough to go on from
-  leaves : (k : Call) → Calls c ceilings k → asked (c .machine) k ≡ 0 → After (c .machine .plan .threads) (perform (planOf (c .machine)) k (idle (c .machine)))
+  leaves : (k : Call) → Calls c k → asked (c .machine) k ≡ 0 → After (c .machine .plan .threads) (perform (planOf (c .machine)) k (idle (c .machine)))
   leaves (records.Create t) a z = created (creates (create-asked a) z)
   leaves (records.Delay n) a z = let w = delays (caller-asked a) n z in subst (After (c .machine .plan .threads)) (sym (by w (λ x. delay x n))) (delayed w n)
   leaves records.Relinquish a z = let w = relinquishes (caller-asked a) z in subst (After (c .machine .plan .threads)) (sym (by w (relinquish (planOf (c .machine))))) (relinquished w)
@@ -119,18 +119,18 @@ module _ {c : Reporting} {ceilings : List ℕ} where
   leaves (records.Timing k) a z = timed (formed-idle (a .asks)) k
 
 -- what a call leaves before its Switch: a machine and its reports
-module _ {c : Reporting} {ceilings : List ℕ} {k : Call} (a : Asks c ceilings (call k)) {left : Machine} {rs : Reports} {rule : ℕ} (made : MakesOf (shown c) left rs rule (c .machine) k)
+module _ {c : Reporting} {k : Call} (a : Asks c (call k)) {left : Machine} {rs : Reports} {rule : ℕ} (made : MakesOf (shown c) left rs rule (c .machine) k)
     (enough : After (c .machine .plan .threads) (viewed left (owed rs))) where
   -- it is enough to find the chosen thread
-  pub left-settles : Settles left rs ceilings
-  left-settles = settles (facts (formed-idle a)) (record { plan' = made .plan'; seen = refl }) enough ceilings (a .ceilings')
+  pub left-settles : Settles left rs
+  left-settles = settles (facts (formed-idle a)) (record { plan' = made .plan'; seen = refl; keeps = made .keeps }) enough
 
   module _ {who : ℕ} {quiet : Tick} (is : who ≡ numbered (chosen (planOf left) (idle left))) (still : Quiet left (quiet .0)) where
     abbrev after : Reporting
     after = owing left rs rule who quiet
 
     stands : Apart after → Stands after
-    stands p = record { apart' = p; quiet' = still }
+    stands p = record { keeps = made .keeps; apart' = p; quiet' = still }
 
     -- it moves the machine, where it stands for what the model's call and its Switch make
     moved-by : rule ≡ 0 → shown after ≡ switch (planOf left) (viewed left (owed rs)) → Apart after → Answers after c (call k)
@@ -154,10 +154,10 @@ module _ {c : Reporting} {ceilings : List ℕ} {k : Call} (a : Asks c ceilings (
             moved-by z (last-shown left rs rule who quiet e (one-byte left-settles who is) ∙ switched left-settles who is d) (last-apart left rs rule who quiet e (left-settles .room))
         go (inr d) q =
             let e : eqb rule 0 && not (eqb who (left .reported)) ≡ false = rw (ne-eqb rule 0 d) in
-            breaks c after (made .plan') (none-shown left rs rule who quiet e ∙ made .kept d) (made .rule') d (stands (none-apart left rs rule who quiet e))
+            breaks c after (made .plan') (none-shown left rs rule who quiet e ∙ made .stays d) (made .rule') d (stands (none-apart left rs rule who quiet e))
 
 -- a call with nothing due
-module _ {c : Reporting} {ceilings : List ℕ} {k : Call} (a : Calls c ceilings k) {left : Machine} {rs : Reports} {rule : ℕ} (made : Makes left rs rule (c .machine) k) where
+module _ {c : Reporting} {k : Call} (a : Calls c k) {left : Machine} {rs : Reports} {rule : ℕ} (made : Makes left rs rule (c .machine) k) where
   as-shown : MakesOf (shown c) left rs rule (c .machine) k
   as-shown = subst (λ (st : state.State). MakesOf st left rs rule (c .machine) k) (sym (comes-idle a)) made
 
@@ -166,9 +166,9 @@ module _ {c : Reporting} {ceilings : List ℕ} {k : Call} (a : Calls c ceilings 
     where
       go : (rule ≡ 0) ⊎ (rule ≢ 0) → After (c .machine .plan .threads) (viewed left (owed rs))
       go (inl z) = subst (After (c .machine .plan .threads)) (sym (made .made z)) (leaves k a (sym (made .rule') ∙ z))
-      go (inr d) = subst (After (c .machine .plan .threads)) (sym (made .kept d)) (before (facts (formed-idle (a .asks))))
+      go (inr d) = subst (After (c .machine .plan .threads)) (sym (made .stays d)) (before (facts (formed-idle (a .asks))))
 
-  pub call-settles : Settles left rs ceilings
+  pub call-settles : Settles left rs
   call-settles = left-settles (a .asks) as-shown enough
 
   pub call-answers : {who : ℕ} {quiet : Tick} → who ≡ numbered (chosen (planOf left) (idle left)) → Quiet left (quiet .0) → Answers (owing left rs rule who quiet) c (call k)
@@ -179,18 +179,18 @@ module _ {c : Reporting} {ceilings : List ℕ} {k : Call} (a : Calls c ceilings 
   quiet-answers d is = call-answers is (call-quiet made d (a .asks .stands .quiet'))
 
 -- a Tick, whatever is due
-module _ {c : Reporting} {ceilings : List ℕ} (a : Ticks c ceilings) {left : Machine} {rs : Reports} (made : MakesOf (shown c) left rs 0 (c .machine) records.Tick) where
+module _ {c : Reporting} (a : Ticks c) {left : Machine} {rs : Reports} (made : MakesOf (shown c) left rs 0 (c .machine) records.Tick) where
   ticks-on : After (c .machine .plan .threads) (viewed left (owed rs))
   ticks-on = subst (After (c .machine .plan .threads)) (sym (made .made refl)) (ticked (tick-asked a) (shown c .due) (claims-room (a .asks)))
 
-  pub tick-settles : Settles left rs ceilings
+  pub tick-settles : Settles left rs
   tick-settles = left-settles (a .asks) made ticks-on
 
   pub tick-answers : {who : ℕ} {quiet : Tick} → who ≡ numbered (chosen (planOf left) (idle left)) → Quiet left (quiet .0) → Answers (owing left rs 0 who quiet) c (call records.Tick)
   tick-answers is still = left-answers (a .asks) made ticks-on is still
 
 -- a Tick at which nothing happens
-module _ {c : Reporting} {ceilings : List ℕ} (a : Calls c ceilings records.Tick) (z : c .rule ≡ 0) (below : c .machine .tick .0 + 1 < c .quiet .0) where
+module _ {c : Reporting} (a : Calls c records.Tick) (z : c .rule ≡ 0) (below : c .machine .tick .0 + 1 < c .quiet .0) where
   abbrev m : Machine
   m = c .machine
 
@@ -210,6 +210,7 @@ module _ {c : Reporting} {ceilings : List ℕ} (a : Calls c ceilings records.Tic
       moves c (passed c) refl (sym (tick-rule (tick-asked (record { asks = a .asks; ordered = a .ordered })) (shown c .due))) z
       (passed-shown ∙ sym unswitched-tick ∙ ap (λ (st : state.State). effect (planOf m) (call records.Tick) st) (sym (comes-idle a)))
       (record {
+        keeps = a .asks .stands .keeps;
         apart' = record { apart = a .asks .stands .apart' .apart };
         quiet' = a .asks .stands .quiet';
       })

@@ -162,7 +162,7 @@ call-quiet {m} {left} {rs} {rule} {until} {k} makes d q = go (equal? rule 0)
   where
     go : (rule ≡ 0) ⊎ (rule ≢ 0) → Quiet left until
     go (inl z) = quiet-by m left (ap (λ (st : State). st .conditions) (makes .made z)) (ap (λ (st : State). st .timers) (makes .made z)) q (stays-still until (idle m .timers) (planOf m) (idle m) k d (still-by m q))
-    go (inr z) = quiet-by m left (ap (λ (st : State). st .conditions) (makes .kept z)) (ap (λ (st : State). st .timers) (makes .kept z)) q (still-by m q)
+    go (inr z) = quiet-by m left (ap (λ (st : State). st .conditions) (makes .stays z)) (ap (λ (st : State). st .timers) (makes .stays z)) q (still-by m q)
 
 -- where no sleeper passes a test, all stay
 module _ (f : ℕ → Bool) where

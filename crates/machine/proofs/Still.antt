@@ -2,12 +2,9 @@
 use mathlib.Core.Path.{_≡_, refl, ap, sym, _∙_}
 use mathlib.Core.Logic.{inl}
 use mathlib.Core.Bool.{Bool, true, _&&_}
-use mathlib.Core.List.{map}
 use Prim.Native.Nat.{ℕ, _+_, _≤_, _<_}
 use native.Mathlib.Omega.{arith}
 use lib.Dec.{T, leb, ltb, leb→le, ltb→lt}
-use Rattle.model.specs.Searches.{upTo}
-use Rattle.model.specs.Plan.{ceiling}
 use Rattle.model.specs.Records.{Tick, call}
 use Rattle.model.specs.State as state
 use Rattle.model.specs.Timers.{isComplete}
@@ -21,6 +18,7 @@ use Rattle.machine.specs.declared.Machine.{Machine}
 use Rattle.machine.specs.declared.state.State.{State}
 use Rattle.machine.specs.declared.reporting.Reporting.{Reporting}
 use Rattle.machine.specs.View.{planOf, view, reportAt, shown}
+use Rattle.machine.specs.Kept.{kept}
 use Rattle.machine.specs.Contracts.{soonest, nextEventOf, opened, later, still}
 use Rattle.machine.specs.Calls.{Calls}
 use Rattle.machine.proofs.Facts.{facts}
@@ -30,7 +28,7 @@ use Rattle.machine.proofs.Quieted.{next-quiet}
 use Rattle.machine.proofs.Outcomes.{passed-answers}
 use Rattle.machine.proofs.Judged.{answers-moved}
 
-module _ (s : State) (f : T (formed (planOf (s .machine)) (view s))) (room : s .machine .tick .0 < lastTick) (e : still s ≡ true) where
+module _ (s : State) (f : T (formed (planOf (s .machine)) (view s))) (k : T (kept (s .machine))) (room : s .machine .tick .0 < lastTick) (e : still s ≡ true) where
   -- the state opened, with what happens next
   abbrev quieted : Reporting
   quieted =
@@ -73,13 +71,13 @@ module _ (s : State) (f : T (formed (planOf (s .machine)) (view s))) (room : s .
       rw (is-true complete (and-right undue complete first-two))
       (omega (arith, ltb→lt (m .tick .0 + 1) expiry (and-right (undue && complete) later-expiry first-three), ltb→lt (m .tick .0 + 1) wake (and-right (undue && complete && later-expiry) later-wake (from-true (still s) e))))
 
-  -- before it no arming is in progress; no thread moves, so the ceilings of the plan are asked for, and none need be passed
-  ticks : Calls quieted (map (ceiling (planOf (s .machine))) (upTo 16)) Tick
+  -- before it no arming is in progress
+  ticks : Calls quieted Tick
   ticks =
       let formed' : T (formed (planOf (s .machine)) (shown quieted)) = rw (opened-shown s) f in
       let q = next-quiet (s .machine) (facts (unowed (s .machine) (reportAt quieted) (s .due .count) (s .given) formed') .sleeps) in
       record {
-        asks = record { formed' = formed'; stands = record { apart' = record { apart = inl refl }; quiet' = q }; ceilings' = refl; allowed' = tt; tick' = λ z. room };
+        asks = record { formed' = formed'; stands = record { keeps = k; apart' = record { apart = inl refl }; quiet' = q }; allowed' = tt; tick' = λ z. room };
         undue = nothing-due;
         ordered = q .rests (omega (arith, below));
       }

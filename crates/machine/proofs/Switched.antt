@@ -43,13 +43,13 @@ module _ (p : Plan) (st : State) where
       go (inr f) = ap (λ b. cond b st (st ▷ owe (Switch (chosen p st) ∷ []))) (is-false (same (lastReported st) (chosen p st)) f)
 
 -- what a call left before its Switch: the chosen thread can be asked for, there is room for the Switch, and none is due yet
-pub record Settles (left : Machine) (rs : Reports) (ceilings : List ℕ) : Type 0 where
-  pub chooses : Chooses left ceilings
+pub record Settles (left : Machine) (rs : Reports) : Type 0 where
+  pub chooses : Chooses left
   pub room : rs .count < reportRoom
   pub last : lastReported (viewed left (owed rs)) ≡ threadOf (left .reported)
 
 -- after a call, where this is the number of the chosen thread
-module _ {m : Machine} {rs : Reports} {ceilings : List ℕ} (settles : Settles m rs ceilings) (who : ℕ) (is-chosen : who ≡ numbered (chosen (planOf m) (idle m))) where
+module _ {m : Machine} {rs : Reports} (settles : Settles m rs) (who : ℕ) (is-chosen : who ≡ numbered (chosen (planOf m) (idle m))) where
   abbrev left : State
   left = viewed m (owed rs)
 

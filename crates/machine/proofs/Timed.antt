@@ -5,7 +5,7 @@ use mathlib.Core.Bool.{Bool, true, false, cond}
 use mathlib.Core.List.{List, []}
 use Prim.Native.Nat.{ℕ}
 use borrow.Author.Tests.{eq-eqb, ne-eqb}
-use lib.Dec.{eqb}
+use lib.Dec.{T, eqb}
 use Rattle.model.specs.Plan as plan
 use Rattle.model.specs.Records as records
 use Rattle.model.specs.Records.{TimerCall, Timing}
@@ -25,6 +25,7 @@ use Rattle.due.specs.declared.made.Made.{Made}
 use Rattle.machine.specs.declared.reporting.Reporting.{Reporting}
 use Rattle.due.specs.Lists.{owed, Tells}
 use Rattle.machine.specs.View.{planOf, viewed, idle}
+use Rattle.machine.specs.Kept.{kept}
 use Rattle.machine.specs.Contracts.{owing}
 use Rattle.machine.specs.Calls.{Calls, Called}
 use Rattle.machine.proofs.Admitted.{asked, Makes}
@@ -41,17 +42,18 @@ seen-so : (m : Machine) (ts : Timers) (rs : Reports) {to : model.Timers} {due : 
 seen-so m ts rs e d = λ i. state.setTimers (e i) (viewed m (d i))
 
 -- it is what the model's call makes, or where a rule is broken the machine as it came
-pub sets : (m : Machine) (k : TimerCall) (ts : Timers) (rs : Reports) {rule : ℕ} → rule ≡ asked m (Timing k)
+pub sets : (m : Machine) → T (kept m) → (k : TimerCall) (ts : Timers) (rs : Reports) {rule : ℕ} → rule ≡ asked m (Timing k)
     → timing.view ts ≡ cond (eqb rule 0) (setTimer k (m .tick .0) (timing.view (m .timers))) (timing.view (m .timers))
     → owed rs ≡ cond (eqb rule 0) (lateDue k (m .tick .0) (timing.view (m .timers))) []
     → Makes (retimed m ts) rs rule m (Timing k)
 unfolding calls.timing
-sets m k ts rs {rule} r e d =
+sets m t k ts rs {rule} r e d =
     record {
       plan' = refl;
       rule' = r;
       made = λ z. seen-so m ts rs (rw (eq-eqb rule 0 z) at e) (rw (eq-eqb rule 0 z) at d);
-      kept = λ n. seen-so m ts rs (rw (ne-eqb rule 0 n) at e) (rw (ne-eqb rule 0 n) at d);
+      stays = λ n. seen-so m ts rs (rw (ne-eqb rule 0 n) at e) (rw (ne-eqb rule 0 n) at d);
+      keeps = t;
     }
 
 -- of a call that owes no Late nothing is due, whatever its rule
@@ -64,13 +66,13 @@ chosen-timed : (p : plan.Plan) (k : TimerCall) (st : state.State) → chosen p (
 unfolding chosen current greatestHold calls.timing
 chosen-timed p k st = refl
 
-module _ {c : Reporting} {ceilings : List ℕ} {k : TimerCall} (a : Calls c ceilings (Timing k)) {left : Machine} {rs : Reports} {rule : ℕ} (made : Makes left rs rule (c .machine) (Timing k)) where
+module _ {c : Reporting} {k : TimerCall} (a : Calls c (Timing k)) {left : Machine} {rs : Reports} {rule : ℕ} (made : Makes left rs rule (c .machine) (Timing k)) where
   still-chosen : chosen (planOf left) (idle left) ≡ chosen (planOf (c .machine)) (idle (c .machine))
   still-chosen = sym (chosen-due (planOf left) left (owed rs)) ∙ ap (λ (p : plan.Plan). chosen p (viewed left (owed rs))) (ap plans.view (made .plan')) ∙ go (equal? rule 0)
     where
       go : (rule ≡ 0) ⊎ (rule ≢ 0) → chosen (planOf (c .machine)) (viewed left (owed rs)) ≡ chosen (planOf (c .machine)) (idle (c .machine))
       go (inl z) = ap (chosen (planOf (c .machine))) (made .made z) ∙ chosen-timed (planOf (c .machine)) k (idle (c .machine))
-      go (inr d) = ap (chosen (planOf (c .machine))) (made .kept d)
+      go (inr d) = ap (chosen (planOf (c .machine))) (made .stays d)
 
   -- what is answered: the chosen thread is still the one reported, and what happens next is no longer known
   pub timer-answers : Called (owing left rs rule (c .machine .reported) (record { 0 = 0 })) c (Timing k)

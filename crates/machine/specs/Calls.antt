@@ -2,12 +2,10 @@
 use mathlib.Core.Path.{_≡_}
 use mathlib.Core.Logic.{_⊎_}
 use mathlib.Core.Bool.{Bool, cond}
-use mathlib.Core.List.{List, [], map}
+use mathlib.Core.List.{List, []}
 use mathlib.Core.Option.{some}
 use Prim.Native.Nat.{ℕ, _+_, _%_, _≤_, _<_}
 use lib.Dec.{T, eqb}
-use Rattle.model.specs.Searches.{upTo}
-use Rattle.model.specs.Plan as plan
 use Rattle.model.specs.Records as records
 use Rattle.model.specs.State.{asleep}
 use Rattle.model.specs.Timers.{Timer, slot, setTimer, lateDue}
@@ -25,6 +23,7 @@ use Rattle.machine.specs.declared.reporting.Reporting.{Reporting}
 use Rattle.machine.specs.declared.state.State.{State}
 use Rattle.due.specs.Lists.{reportRoom, Tells}
 use Rattle.machine.specs.View.{conditionIn, planOf, idle, view, reportAt, shown}
+use Rattle.machine.specs.Kept.{kept}
 use Rattle.machine.specs.Rules.{ruleNumber, dueRule}
 use Rattle.machine.specs.Contracts.{Ceilings, nextEventOf}
 
@@ -41,41 +40,42 @@ pub record QuietUntil (until threads : ℕ) (slots : Slots) (wakes : List Tick) 
 abbrev pub Quiet : Machine → (until : ℕ) → Type 0
 Quiet m until = QuietUntil until (m .plan .threads) (m .slots) (m .wakes) (m .timers)
 
--- what is carried beside the machine is what it should be: the place of the Switch, the tick number before which nothing happens
+-- what is kept and carried beside the state is what it should be: the owner, the place of the Switch, the tick number before which nothing happens
 pub record Stands (c : Reporting) : Type 0 where
+  pub keeps : T (kept (c .machine))
   pub apart' : Apart c
   pub quiet' : Quiet (c .machine) (c .quiet .0)
 
--- What a record asks: a well-formed state (the answer is not 12) and what is carried beside it, the ceilings of its plan, an operand that its
--- kind allows, and for a Tick room for the tick number to grow (the answer is not 13).
-pub record Asks (c : Reporting) (ceilings : List ℕ) (r : records.Record) : Type 0 where
+-- What a record asks: a well-formed state and what is kept and carried beside it (the answer is not 12), an operand that its kind allows, and for a
+-- Tick room for the tick number to grow (the answer is not 13).
+pub record Asks (c : Reporting) (r : records.Record) : Type 0 where
   pub formed' : T (formed (planOf (c .machine)) (shown c))
   pub stands : Stands c
-  pub ceilings' : Ceilings (c .machine) ceilings
   pub allowed' : T (records.allowed (planOf (c .machine)) r)
   pub tick' : r ≡ records.call records.Tick → c .machine .tick .0 < lastTick
 
 -- a call other than Tick with nothing due, where the arming has come to its place
-pub record Calls (c : Reporting) (ceilings : List ℕ) (k : records.Call) : Type 0 where
-  pub asks : Asks c ceilings (records.call k)
+pub record Calls (c : Reporting) (k : records.Call) : Type 0 where
+  pub asks : Asks c (records.call k)
   pub undue : c .due ≤ c .given
   pub ordered : stage (timing.view (c .machine .timers) .arming) ≡ callPlace k
 
--- a Tick outside an arming, whatever is due
-pub record Ticks (c : Reporting) (ceilings : List ℕ) : Type 0 where
-  pub asks : Asks c ceilings (records.call records.Tick)
-  pub ordered : stage (timing.view (c .machine .timers) .arming) ≡ 0
+-- a call that may move a hold, with the ceilings of its plan
+pub record Moves (c : Reporting) (ceilings : List ℕ) (k : records.Call) : Type 0 where
+  pub calls : Calls c k
+  pub ceilings' : Ceilings (c .machine) ceilings
 
--- a call that sets timers moves no thread, so the ceilings of its plan are asked for, and none need be passed
-abbrev pub Sets : Reporting → records.TimerCall → Type 0
-Sets c k = Calls c (map (plan.ceiling (planOf (c .machine))) (upTo 16)) (records.Timing k)
+-- a Tick outside an arming, whatever is due
+pub record Ticks (c : Reporting) : Type 0 where
+  pub asks : Asks c (records.call records.Tick)
+  pub ordered : stage (timing.view (c .machine .timers) .arming) ≡ 0
 
 -- What is answered of a record: what the model's step answers, the state after it with all its reports due, or the broken rule, which leaves
 -- the state as it came.
 pub record Answers (after c : Reporting) (r : records.Record) : Type 0 where
   pub outcome : cond (eqb (after .rule) 0) (moved (shown after)) (broke (after .rule)) ≡ step (planOf (c .machine)) (shown c) r
   pub plan' : after .machine .plan ≡ c .machine .plan
-  pub kept : (after .rule ≡ 0 → ⊥) → shown after ≡ shown c
+  pub stays : (after .rule ≡ 0 → ⊥) → shown after ≡ shown c
   pub stands' : Stands after
 
 -- the tick number before which nothing happens, after a call: asked anew by a Tick, no longer known after a Delay and where timers are set, and kept
@@ -97,7 +97,7 @@ pub record Called (after c : Reporting) (k : records.Call) : Type 0 where
 
 -- What a call that sets timers found: the rule that it breaks, 0 if there is none; then the timers as the model sets them, and its Late.
 pub record Setting (c : Reporting) (k : records.TimerCall) (timers : Timers) (made : Made) (rule : ℕ) : Type 0 where
-  pub sets : Sets c k
+  pub sets : Calls c (records.Timing k)
   pub rule' : rule ≡ ruleNumber (broken (planOf (c .machine)) (idle (c .machine)) (records.call (records.Timing k)))
   pub timers' : timing.view timers ≡ cond (eqb rule 0) (setTimer k (c .machine .tick .0) (timing.view (c .machine .timers))) (timing.view (c .machine .timers))
   pub made' : Tells made (cond (eqb rule 0) (lateDue k (c .machine .tick .0) (timing.view (c .machine .timers))) [])

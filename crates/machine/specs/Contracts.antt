@@ -17,7 +17,6 @@ use Rattle.lists.specs.declared.queue.Queue.{Queue}
 use Rattle.lists.specs.declared.holds.Holds.{Holds}
 use Rattle.lists.specs.Words.{withNibble}
 use Rattle.lists.specs.Lists.{queued}
-use Rattle.lists.specs.Choice.{Counts}
 use Rattle.clock.specs.declared.time.Tick.{Tick}
 use Rattle.clock.specs.declared.timers.Timers.{Timers}
 use Rattle.clock.specs.View as timing
@@ -32,6 +31,7 @@ use Rattle.machine.specs.declared.reporting.Reporting.{Reporting}
 use Rattle.machine.specs.declared.state.State.{State}
 use Rattle.due.specs.Lists.{reportOf, IsReport}
 use Rattle.machine.specs.View.{planOf, idle, view}
+use Rattle.machine.specs.Kept.{kept}
 
 -- a thread comes into another condition, or waits for a section
 
@@ -69,6 +69,12 @@ nextEvent delays wakes timers = cond (isComplete (timing.view timers .arming)) (
 abbrev pub nextEventOf : Machine → ℕ
 nextEventOf m = nextEvent (m .delays) (m .wakes) (m .timers)
 
+-- the counts are within the words
+pub record Counts (queue : Queue) (holds : Holds) (waits : Queue) : Type 0 where
+  pub queue' : queue .count ≤ 16
+  pub holds' : holds .count ≤ 16
+  pub waits' : waits .count ≤ 16
+
 -- the lists are within their words, and those in the queue and in the waits are threads
 pub record Listed (threads : ℕ) (queue : Queue) (holds : Holds) (waits : Queue) : Type 0 where
   pub threads' : threads ≤ 16
@@ -80,21 +86,23 @@ pub record Listed (threads : ℕ) (queue : Queue) (holds : Holds) (waits : Queue
 abbrev pub Ceilings : Machine → List ℕ → Type 0
 Ceilings m ceilings = ceilings ≡ map (plan.ceiling (planOf m)) (upTo 16)
 
--- what finding the chosen thread asks: a valid plan, lists that name its threads, and where somebody waits the ceilings
-pub record Chooses (m : Machine) (ceilings : List ℕ) : Type 0 where
+-- what finding the chosen thread asks: a valid plan, lists that name its threads, and the owner kept
+pub record Chooses (m : Machine) : Type 0 where
   pub valid : T (plan.validPlan (planOf m))
   pub listed : Listed (m .plan .threads) (m .queue) (m .holds) (m .waits)
-  pub ceilings' : 0 < m .waits .count → Ceilings m ceilings
+  pub keeps : T (kept m)
 
 -- a machine at its start, and with nothing due
 
 pub record Starts (r : Machine) (p : Plan) : Type 0 where
   pub plan' : r .plan ≡ p
   pub seen : idle r ≡ state.start (plans.view p)
+  pub keeps : T (kept r)
 
 pub record Fresh (r : State) (p : Plan) : Type 0 where
   pub plan' : r .machine .plan ≡ p
   pub seen : view r ≡ state.start (plans.view p)
+  pub keeps : T (kept (r .machine))
 
 -- a well-formed state with something due
 pub record Owes (s : State) : Type 0 where
@@ -109,6 +117,7 @@ pub record FirstDue (r : Report) (s : State) : Type 0 where
 pub record Delivers (r s : State) (given : Report) : Type 0 where
   pub plan' : r .machine .plan ≡ s .machine .plan
   pub seen : view r ≡ deliver (reportOf given) (view s)
+  pub holds' : r .machine .holds ≡ s .machine .holds
 
 -- a state to be moved on from: all its reports stand in the array, so that no Switch to a chosen thread stands apart
 abbrev pub opened : State → Reporting

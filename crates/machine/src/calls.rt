@@ -1,7 +1,7 @@
 // What each call does. A method takes the machine by value, and hands it back with all the reports that are then due, the Switch last, or with the rule
 // that the call breaks. Calls other than Tick come with nothing due: the chosen thread is the one last reported, and it is the caller.
 ghost use Rattle.model.specs.Records as records;
-ghost use Rattle.machine.specs.Calls.{Calls, Ticks, Called};
+ghost use Rattle.machine.specs.Calls.{Calls, Moves, Ticks, Called};
 use crate::quiet::next_event;
 use crate::reporting::Reporting;
 use crate::rules;
@@ -15,8 +15,8 @@ use plan::lookup::base;
 
 impl Reporting {
     // Create: see model, Calls.create.
-    pub fn create(self, ceilings: &[u8; 16], thread: u8) -> Reporting
-        requires { ⌜ Calls self (now ceilings) (records.Create thread) ⌝ }
+    pub fn create(self, thread: u8) -> Reporting
+        requires { ⌜ Calls self (records.Create thread) ⌝ }
         ensures { λ r. ⌜ Called r self (records.Create thread) ⌝ }
     {
         let mut m = self.machine;
@@ -30,14 +30,14 @@ impl Reporting {
             made = Made::one(16, thread);
         }
         let c = self.making(made);
-        let who = m.chosen(ceilings);
+        let who = m.chosen();
         c.owing(m, rule, who, self.quiet)
     }
 
     // Tick: see model, Calls.tick. It walks over the sleepers in the order of their Delays; what happens next is asked anew. The reports still due but a
     // Switch stand before its own.
-    pub fn tick(self, ceilings: &[u8; 16]) -> Reporting
-        requires { ⌜ Ticks self (now ceilings) ⌝ }
+    pub fn tick(self) -> Reporting
+        requires { ⌜ Ticks self ⌝ }
         ensures { λ r. ⌜ Called r self records.Tick ⌝ }
     {
         let now = self.machine.tick;
@@ -63,13 +63,13 @@ impl Reporting {
         let delays = w.delays;
         m.delays = delays;
         m.timers = later;
-        let who = m.chosen(ceilings);
+        let who = m.chosen();
         self.telling(rs).owing(m, 0, who, quiet)
     }
 
     // Delay: see model, Calls.delay. What happens next is no longer known.
-    pub fn delay(self, ceilings: &[u8; 16], wait: Wait) -> Reporting
-        requires { ⌜ Calls self (now ceilings) (records.Delay (wait .0)) ⌝ }
+    pub fn delay(self, wait: Wait) -> Reporting
+        requires { ⌜ Calls self (records.Delay (wait .0)) ⌝ }
         ensures { λ r. ⌜ Called r self (records.Delay (wait .0)) ⌝ }
     {
         let mut m = self.machine;
@@ -89,13 +89,13 @@ impl Reporting {
             m.delays = delays;
         }
         let c = self.making(Made::none());
-        let who = m.chosen(ceilings);
+        let who = m.chosen();
         c.owing(m, rule, who, Tick(0))
     }
 
     // Relinquish: see model, Calls.relinquish.
-    pub fn relinquish(self, ceilings: &[u8; 16]) -> Reporting
-        requires { ⌜ Calls self (now ceilings) records.Relinquish ⌝ }
+    pub fn relinquish(self) -> Reporting
+        requires { ⌜ Calls self records.Relinquish ⌝ }
         ensures { λ r. ⌜ Called r self records.Relinquish ⌝ }
     {
         let mut m = self.machine;
@@ -104,7 +104,7 @@ impl Reporting {
         let rule = rules::run_rule(caller);
         if rule == 0 {
             let bases = m.plan.bases;
-            if choice::rivalled_of(bases, ceilings, m.queue, m.holds, m.waits, caller) {
+            if choice::rivalled_of(bases, m.queue, m.holds.top.owner, m.waits, caller) {
                 let others = m.queue.without(caller);
                 let queue = others.push(caller);
                 m.queue = queue;
@@ -112,13 +112,13 @@ impl Reporting {
             }
         }
         let c = self.making(made);
-        let who = m.chosen(ceilings);
+        let who = m.chosen();
         c.owing(m, rule, who, self.quiet)
     }
 
     // End: see model, Calls.end.
-    pub fn end(self, ceilings: &[u8; 16]) -> Reporting
-        requires { ⌜ Calls self (now ceilings) records.End ⌝ }
+    pub fn end(self) -> Reporting
+        requires { ⌜ Calls self records.End ⌝ }
         ensures { λ r. ⌜ Called r self records.End ⌝ }
     {
         let mut m = self.machine;
@@ -131,13 +131,13 @@ impl Reporting {
             m.queue = queue;
         }
         let c = self.making(Made::none());
-        let who = m.chosen(ceilings);
+        let who = m.chosen();
         c.owing(m, rule, who, self.quiet)
     }
 
     // Take: see model, Calls.take.
     pub fn take(self, ceilings: &[u8; 16], section: u8) -> Reporting
-        requires { ⌜ Calls self (now ceilings) (records.Take section) ⌝ }
+        requires { ⌜ Moves self (now ceilings) (records.Take section) ⌝ }
         ensures { λ r. ⌜ Called r self (records.Take section) ⌝ }
     {
         let mut m = self.machine;
@@ -149,7 +149,8 @@ impl Reporting {
         if rule == 0 {
             let b = base(m.plan.threads, bases, caller);
             if m.holds.clear(ceilings, caller, b) {
-                let holds = m.holds.push(section, caller);
+                let ceiling = ceilings[section as usize];
+                let holds = m.holds.push(section, caller, ceiling);
                 m.holds = holds;
                 made = Made::one(18, caller);
             } else {
@@ -163,13 +164,13 @@ impl Reporting {
             }
         }
         let c = self.making(made);
-        let who = m.chosen(ceilings);
+        let who = m.chosen();
         c.owing(m, rule, who, self.quiet)
     }
 
     // Give: see model, Calls.give.
     pub fn give(self, ceilings: &[u8; 16], section: u8) -> Reporting
-        requires { ⌜ Calls self (now ceilings) (records.Give section) ⌝ }
+        requires { ⌜ Moves self (now ceilings) (records.Give section) ⌝ }
         ensures { λ r. ⌜ Called r self (records.Give section) ⌝ }
     {
         let mut m = self.machine;
@@ -178,11 +179,13 @@ impl Reporting {
         let bases = m.plan.bases;
         let rule = rules::give_rule(m.holds, caller, section);
         if rule == 0 {
-            let mut holds = m.holds.without(section, caller);
+            let mut holds = m.holds.without(ceilings, section, caller);
             let heir = choice::find_heir(bases, ceilings, m.waits, holds);
             let t = heir.who;
             if heir.free {
-                holds = holds.push(m.slots.wanted(t), t);
+                let wanted = m.slots.wanted(t);
+                let ceiling = ceilings[wanted as usize];
+                holds = holds.push(wanted, t, ceiling);
                 let waits = m.waits.without(t);
                 m.waits = waits;
                 let slots = m.slots.placed(t, 1);
@@ -196,7 +199,7 @@ impl Reporting {
             m.holds = holds;
         }
         let c = self.making(made);
-        let who = m.chosen(ceilings);
+        let who = m.chosen();
         c.owing(m, rule, who, self.quiet)
     }
 }

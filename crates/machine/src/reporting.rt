@@ -57,12 +57,12 @@ impl Machine {
     }
 
     // The chosen thread, 255 for nobody: see model, Priorities.chosen.
-    pub fn chosen(self, ceilings: &[u8; 16]) -> u8
-        requires { ⌜ Chooses self (now ceilings) ⌝ }
+    pub fn chosen(self) -> u8
+        requires { ⌜ Chooses self ⌝ }
         ensures { λ r. ⌜ r ≡ numbered (chosen (planOf self) (idle self)) ⌝ }
     {
         let bases = self.plan.bases;
-        choice::chosen_of(bases, ceilings, self.queue, self.holds, self.waits)
+        choice::chosen_of(bases, self.queue, self.holds.top.owner, self.waits)
     }
 }
 

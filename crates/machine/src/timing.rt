@@ -2,7 +2,7 @@
 // stays the one reported; what happens next is no longer known.
 ghost use Prim.Native.Nat.{_≤_};
 ghost use Rattle.model.specs.Records as records;
-ghost use Rattle.machine.specs.Calls.{Sets, Called, Timed};
+ghost use Rattle.machine.specs.Calls.{Calls, Called, Timed};
 use crate::reporting::Reporting;
 use crate::rules;
 use clock::time::Tick;
@@ -12,7 +12,7 @@ use due::made::Made;
 impl Reporting {
     // Arm: see model, Timers.setTimer.
     pub fn arm(self, timer: u8) -> Reporting
-        requires { ⌜ Sets self (records.Arm timer) ⌝ }
+        requires { ⌜ Calls self (records.Timing (records.Arm timer)) ⌝ }
         ensures { λ r. ⌜ Called r self (records.Timing (records.Arm timer)) ⌝ }
     {
         let t = self.machine.timers;
@@ -22,7 +22,7 @@ impl Reporting {
 
     // Start.
     pub fn start(self, number: u16) -> Reporting
-        requires { ⌜ Sets self (records.Start number) ⌝ }
+        requires { ⌜ Calls self (records.Timing (records.Start number)) ⌝ }
         ensures { λ r. ⌜ Called r self (records.Timing (records.Start number)) ⌝ }
     {
         let t = self.machine.timers;
@@ -32,7 +32,7 @@ impl Reporting {
 
     // Period: Late is due, with the count of expiries lost.
     pub fn period(self, ticks: u16) -> Reporting
-        requires { ⌜ Sets self (records.Period ticks) ⌝ }
+        requires { ⌜ Calls self (records.Timing (records.Period ticks)) ⌝ }
         ensures { λ r. ⌜ Called r self (records.Timing (records.Period ticks)) ⌝ }
     {
         let t = self.machine.timers;
@@ -47,7 +47,7 @@ impl Reporting {
 
     // Cancel.
     pub fn cancel(self, timer: u8) -> Reporting
-        requires { ⌜ Sets self (records.Cancel timer) ⌝ }
+        requires { ⌜ Calls self (records.Timing (records.Cancel timer)) ⌝ }
         ensures { λ r. ⌜ Called r self (records.Timing (records.Cancel timer)) ⌝ }
     {
         let t = self.machine.timers;

@@ -12,7 +12,7 @@ mod watch;
 
 pub use numbers::{breach, kind, refused, ABI, NOBODY, OK, ROOM, TIMERS};
 pub use readers::{Armed, Begun};
-pub use watch::{Arming, Holds, Machine, Plan, Queue, Report, Reports, Slots, State, Timers, Watch};
+pub use watch::{Arming, Holds, Machine, Plan, Queue, Report, Reports, Slots, State, Timers, Top, Watch};
 
 extern "C" {
     fn beltcairn_abi() -> u32;

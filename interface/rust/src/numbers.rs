@@ -3,10 +3,10 @@
 
 /// The number of this interface. It rises whenever the layout of [`Watch`](crate::Watch) or the signature of a function of the library moves;
 /// [`abi`](crate::abi) asks the library for its own.
-pub const ABI: u32 = 3;
+pub const ABI: u32 = 4;
 
-/// The operand of a Switch to nobody, in a record and in a report of a watch state. In [`Machine::reported`](crate::Machine::reported), a
-/// byte, 255 stands for nobody.
+/// The operand of a Switch to nobody, in a record and in a report of a watch state. In [`Machine::reported`](crate::Machine::reported) and
+/// [`Top::owner`](crate::Top::owner), which are bytes, 255 stands for nobody.
 pub const NOBODY: u16 = 65535;
 
 /// The timers are 0 to 7.

@@ -36,6 +36,18 @@ pub struct Queue {
     pub count: usize,
 }
 
+/// What a walk over the holds finds, kept so that nobody needs to walk: each call that moves a hold sets both.
+///
+/// Ask `owner` whether anything is held: a section that no thread needs, which can be held in a lent state only, has an owner and ceiling 0.
+#[repr(C)]
+#[derive(Clone, Copy, Debug, PartialEq, Eq)]
+pub struct Top {
+    /// The thread that holds the section of greatest ceiling, on a tie the one taken later; 255 if nothing is held.
+    pub owner: u8,
+    /// The greatest ceiling held; 0 if nothing is held.
+    pub ceiling: u8,
+}
+
 /// Sections and the threads that hold them, the latest taken first, as words (see [`packed`](crate::packed)).
 #[repr(C)]
 #[derive(Clone, Copy, Debug, PartialEq, Eq)]
@@ -46,6 +58,8 @@ pub struct Holds {
     pub threads: u64,
     /// How many there are, at most 16.
     pub count: usize,
+    /// Their owner and greatest ceiling.
+    pub top: Top,
 }
 
 /// A report.
@@ -143,7 +157,7 @@ pub struct Watch {
     pub rule: u8,
 }
 
-/// All zeroes, to be written over.
+/// Zeroes and nobody as owner, to be written over.
 pub(crate) fn blank() -> Watch {
     let queue = Queue { items: 0, count: 0 };
     let machine = Machine {
@@ -161,6 +175,7 @@ pub(crate) fn blank() -> Watch {
             sections: 0,
             threads: 0,
             count: 0,
+            top: Top { owner: 255, ceiling: 0 },
         },
         waits: queue,
         delays: queue,

@@ -6,8 +6,9 @@ use beltcairn::kind::{
 };
 use beltcairn::{bench, check, Reply, Verdict, Watch, Written};
 use known::interrupts::run_of_interrupts;
+use known::states::walked;
 use known::timers::{armed, run_of_timers};
-use known::{bytes, interrupts, known, run_a, sleepers, started, timers, Run, PLAN_A};
+use known::{bytes, interrupts, known, run_a, sleepers, started, timers, Numbers, Run, PLAN_A};
 
 const KINDS: [u8; 18] = [
     CREATE, DELAY, RELINQUISH, END, TAKE, GIVE, TICK, ARM, START, PERIOD, CANCEL, READY, SWITCH, WON, LOST, YIELD, EXPIRE, LATE,
@@ -22,12 +23,14 @@ fn all_runs() -> impl Iterator<Item = Run> {
     rested_runs().chain(interrupts::runs())
 }
 
-/// The verdict of live steps, one for each record until one breaks a rule.
+/// The verdict of live steps, one for each record until one breaks a rule; owner and greatest ceiling are those of a walk behind each.
 fn step_by_step(plan: &[u8], records: &[(u8, u16)]) -> Verdict {
     let mut watch = Watch::begin(plan).expect("a plan that passes");
     let mut due = 0;
     for (i, record) in records.iter().enumerate() {
-        match watch.step(record.0, record.1) {
+        let reply = watch.step(record.0, record.1);
+        assert_eq!(watch.state.machine.holds.top, walked(&watch.state.machine), "{records:?} at {i}");
+        match reply {
             Reply::Clean(n) => due = n,
             Reply::Broken(rule) => return Verdict::Breach { record: i as u64, rule },
             Reply::Refused(question) => return Verdict::Refused(question),
@@ -193,23 +196,6 @@ fn most_records() {
     assert!(out.iter().all(|b| *b == 0xaa));
     assert_eq!(bench(&plan, &bytes(&calls[..6667]), &mut out), Written::Wrote(20000));
     assert_eq!(check(&plan, &out), Verdict::Clean { records: 20000, due: 0 });
-}
-
-/// Numbers in no order, the same in every run (xorshift).
-struct Numbers(u64);
-
-impl Numbers {
-    fn below(&mut self, n: usize) -> usize {
-        self.0 ^= self.0 << 13;
-        self.0 ^= self.0 >> 7;
-        self.0 ^= self.0 << 17;
-        (self.0 % n as u64) as usize
-    }
-
-    fn bytes(&mut self, most: usize) -> Vec<u8> {
-        let n = self.below(most + 1);
-        (0..n).map(|_| self.below(256) as u8).collect()
-    }
 }
 
 #[test]

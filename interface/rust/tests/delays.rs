@@ -5,7 +5,7 @@ use beltcairn::kind::{DELAY, LATE, READY, RELINQUISH, SWITCH, TICK};
 use beltcairn::packed::{numbers, word};
 use beltcairn::{breach, refused, Queue, Reply, Watch, NOBODY};
 use known::started;
-use known::states::{is_refused, largest, listed, made, made_owing, owed, steps};
+use known::states::{is_refused, largest, listed, made, made_owing, owed, steps, NOTHING_HELD};
 
 /// The Readys of these threads in order, and the Switch behind them.
 fn woken(threads: &[u16], first: u16) -> Vec<(u8, u16)> {
@@ -64,6 +64,7 @@ fn all_asleep(order: [u8; 3]) -> Watch {
     m.slots.states = 0x222;
     m.wakes[..3].fill(9);
     (m.queue.count, m.holds.count, m.waits.count) = (0, 0, 0);
+    m.holds.top = NOTHING_HELD;
     m.delays = list(&order);
     m.reported = 255;
     watch

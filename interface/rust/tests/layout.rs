@@ -4,9 +4,9 @@ mod known;
 use beltcairn::kind::{CREATE, DELAY, END, GIVE, READY, RELINQUISH, SWITCH, TAKE, TICK, WON};
 use beltcairn::packed::{numbers, word};
 use beltcairn::{
-    abi, breach, refused, Arming, Holds, Machine, Plan, Queue, Reply, Report, Reports, Slots, State, Timers, Watch, ABI, NOBODY,
+    abi, breach, refused, Arming, Holds, Machine, Plan, Queue, Reply, Report, Reports, Slots, State, Timers, Top, Watch, ABI, NOBODY,
 };
-use known::states::{is_refused, largest, listed, made, owed, steps};
+use known::states::{held, is_refused, largest, listed, made, owed, steps, NOTHING_HELD};
 use known::{run_a, PLAN_A};
 use std::mem::{align_of, offset_of, size_of};
 
@@ -18,9 +18,10 @@ fn one_interface() {
 
 #[test]
 fn sizes() {
-    assert_eq!(ABI, 3); // where a number below moves, this one rises
-    let parts = [size_of::<Plan>(), size_of::<Slots>(), size_of::<Queue>(), size_of::<Holds>()];
-    assert_eq!(parts, [64, 16, 16, 24]);
+    assert_eq!(ABI, 4); // where a number below moves, this one rises
+    let parts = [size_of::<Plan>(), size_of::<Slots>(), size_of::<Queue>()];
+    assert_eq!(parts, [64, 16, 16]);
+    assert_eq!([size_of::<Top>(), size_of::<Holds>()], [2, 32]);
     let wholes = [
         size_of::<Report>(),
         size_of::<Reports>(),
@@ -30,12 +31,12 @@ fn sizes() {
         size_of::<State>(),
         size_of::<Watch>(),
     ];
-    assert_eq!(wholes, [4, 112, 4, 52, 280, 400, 408]);
+    assert_eq!(wholes, [4, 112, 4, 52, 288, 408, 416]);
 }
 
 #[test]
 fn alignments() {
-    assert_eq!(ABI, 3); // where a number below moves, this one rises
+    assert_eq!(ABI, 4); // where a number below moves, this one rises
     let eight = [
         align_of::<Plan>(),
         align_of::<Slots>(),
@@ -47,11 +48,12 @@ fn alignments() {
     assert_eq!(eight, [8; 6]);
     assert_eq!([align_of::<State>(), align_of::<Watch>()], [8; 2]);
     assert_eq!([align_of::<Report>(), align_of::<Arming>(), align_of::<Timers>()], [2, 2, 4]);
+    assert_eq!(align_of::<Top>(), 1);
 }
 
 #[test]
 fn offsets() {
-    assert_eq!(ABI, 3); // where a number below moves, this one rises
+    assert_eq!(ABI, 4); // where a number below moves, this one rises
     assert_eq!(
         [
             offset_of!(Plan, threads),
@@ -63,17 +65,16 @@ fn offsets() {
     );
     assert_eq!([offset_of!(Slots, states), offset_of!(Slots, wants)], [0, 8]);
     assert_eq!([offset_of!(Queue, items), offset_of!(Queue, count)], [0, 8]);
-    assert_eq!(
-        [offset_of!(Holds, sections), offset_of!(Holds, threads), offset_of!(Holds, count)],
-        [0, 8, 16]
-    );
+    assert_eq!([offset_of!(Top, owner), offset_of!(Top, ceiling)], [0, 1]);
+    assert_eq!([offset_of!(Holds, sections), offset_of!(Holds, threads)], [0, 8]);
+    assert_eq!([offset_of!(Holds, count), offset_of!(Holds, top)], [16, 24]);
     assert_eq!([offset_of!(Report, kind), offset_of!(Report, operand)], [0, 2]);
     assert_eq!([offset_of!(Reports, items), offset_of!(Reports, count)], [0, 104]);
     assert_eq!([offset_of!(Machine, plan), offset_of!(Machine, tick)], [0, 64]);
     assert_eq!([offset_of!(Machine, slots), offset_of!(Machine, wakes)], [72, 88]);
     assert_eq!(
         [offset_of!(Machine, queue), offset_of!(Machine, holds), offset_of!(Machine, waits)],
-        [152, 168, 192]
+        [152, 168, 200]
     );
     assert_eq!(
         [
@@ -81,18 +82,18 @@ fn offsets() {
             offset_of!(Machine, reported),
             offset_of!(Machine, timers)
         ],
-        [208, 224, 228]
+        [216, 232, 236]
     );
     assert_eq!(
         [offset_of!(State, machine), offset_of!(State, due), offset_of!(State, given)],
-        [0, 280, 392]
+        [0, 288, 400]
     );
-    assert_eq!([offset_of!(Watch, state), offset_of!(Watch, rule)], [0, 400]);
+    assert_eq!([offset_of!(Watch, state), offset_of!(Watch, rule)], [0, 408]);
 }
 
 #[test]
 fn offsets_of_the_timers() {
-    assert_eq!(ABI, 3); // where a number below moves, this one rises
+    assert_eq!(ABI, 4); // where a number below moves, this one rises
     assert_eq!(
         [offset_of!(Arming, stage), offset_of!(Arming, timer), offset_of!(Arming, start)],
         [0, 1, 2]
@@ -112,12 +113,6 @@ fn the_first_number_of_a_word_is_the_lowest() {
     let rising = [0, 1, 2, 3, 4, 5, 6, 7, 8, 9, 10, 11, 12, 13, 14, 15];
     assert_eq!((word(rising), numbers(0xfedc_ba98_7654_3210)), (0xfedc_ba98_7654_3210, rising));
     assert_eq!(word([0xf1; 16]), 0x1111_1111_1111_1111);
-}
-
-/// Section and thread of each hold, the latest first.
-fn held(holds: &Holds) -> Vec<(u8, u8)> {
-    let pairs = numbers(holds.sections).into_iter().zip(numbers(holds.threads));
-    pairs.take(holds.count).collect()
 }
 
 /// The condition of each thread, with the tick number or section that belongs to it and 0 where there is none.
@@ -141,7 +136,7 @@ fn largest_plan() {
     assert_eq!(m.plan.needs[9..], [512, 1024, 2048, 4096, 8192, 16384, 32768]);
     assert_eq!(conditions(m), [(0, 0); 16]);
     assert_eq!([m.queue.count, m.holds.count, m.waits.count, m.delays.count], [0; 4]);
-    assert_eq!((m.tick, m.reported), (0, 255));
+    assert_eq!((m.tick, m.reported, m.holds.top), (0, 255, NOTHING_HELD));
     assert_eq!((watch.state.due.count, watch.state.given, watch.rule), (0, 0, 0));
 }
 
@@ -277,7 +272,7 @@ fn ill_formed_states() {
         |w| w.state.machine.plan.threads = 17,
         |w| w.state.machine.plan.sections = usize::MAX,
         |w| w.state.machine.plan.bases[1] = 65,
-        |w| w.state.machine.plan.needs[2] = 2,
+        |w| w.state.machine.plan.needs[2] = 3,
         |w| w.state.machine.tick = 4_000_000_001,
         |w| w.state.machine.wakes[1] = 4_000_065_537,
         |w| w.state.machine.slots.states = 0x341,
@@ -294,8 +289,8 @@ fn ill_formed_states() {
         |w| w.state.machine.waits.count = 17,
         |w| w.state.machine.holds.count = 2,
         |w| w.state.machine.holds.count = 17,
-        |w| w.state.machine.holds.sections = 1,
-        |w| w.state.machine.holds.threads = 3,
+        |w| (w.state.machine.holds.sections, w.state.machine.holds.top.ceiling) = (1, 0), // no thread needs section 1
+        |w| (w.state.machine.holds.threads, w.state.machine.holds.top.owner) = (3, 3),
         |w| w.state.machine.reported = 3,
         |w| w.state.due.count = 1,
         |w| w.state.due.count = usize::MAX,

@@ -6,25 +6,28 @@ use crate::answer::Answer;
 use crate::bytes::Numbers;
 use crate::difference::Compared;
 use crate::dues::{self, due_with, some_report, some_switch, within_claims};
+use crate::entries::{self, beyond, listed_beyond, listed_twice, named_asleep, remove};
 use crate::lent::{formed_parts, formed_under, reached_parts, some_record};
 use crate::random::Random;
 use crate::runs::plan_of;
 use crate::sides::{refused_12, Pair};
-use crate::state;
+use crate::{state, tops};
 
 /// Breaks the state in one way; says No, with the state as it was, where the state has nothing to break so.
 pub type Break = fn(&mut Parts, &mut Random) -> bool;
 
-pub const WAYS: [(&str, Break); 48] = [
+pub const WAYS: [(&str, Break); 61] = [
     ("plan fails 1: no thread", no_thread),
     ("plan fails 1: too many threads", too_many_threads),
     ("plan fails 1: too many sections", |p, r| {
         set(&mut p.sections, r.pick(&[17, 18, 255, 256, usize::MAX]))
     }),
-    ("plan fails 3", |p, r| put(&mut p.bases, r, |r| r.pick(&[0, 65, 128, 255]))),
+    ("plan fails 3", |p, r| {
+        put(&mut p.bases, r, |r| r.pick(&[0, 65, 128, 255])) && tops::keep(p)
+    }),
     ("plan fails 4", needs_from_s),
     ("thread not below T in the line", |p, r| listed_beyond(&mut p.line, p.threads, r)),
-    ("thread not below T in the holds", holder_beyond),
+    ("thread not below T in the holds", entries::holder_beyond),
     ("thread not below T in the waits", |p, r| listed_beyond(&mut p.waits, p.threads, r)),
     ("thread not below T in the order of Delays", |p, r| {
         listed_beyond(&mut p.delays, p.threads, r)
@@ -39,7 +42,7 @@ pub const WAYS: [(&str, Break); 48] = [
     ("nobody in a report that is no Switch", |p, r| {
         due_with(p, r, |r, _| (r.pick(&[16, 18, 19, 20, 21]), NOBODY))
     }),
-    ("section not below S in the holds", section_beyond),
+    ("section not below S in the holds", entries::section_beyond),
     ("section not below S waited for", waited_beyond),
     ("timer not below 8 in a report", |p, r| {
         due_with(p, r, |r, _| (21, out_of(r, TIMERS)))
@@ -64,11 +67,11 @@ pub const WAYS: [(&str, Break); 48] = [
     ("arming at no stage", |p, r| {
         set(&mut p.arming, (out_of_byte(r, 3), r.below(TIMERS) as u8, r.word()))
     }),
-    ("section held twice", held_twice),
+    ("section held twice", entries::held_twice),
     ("thread twice in the line", |p, r| listed_twice(&mut p.line, r)),
     ("thread twice in the waits", |p, r| listed_twice(&mut p.waits, r)),
     ("sleeper twice in the order of Delays", |p, r| listed_twice(&mut p.delays, r)),
-    ("sleeper twice in the order of Delays, another missing", listed_for_another),
+    ("sleeper twice in the order of Delays, another missing", entries::listed_for_another),
     ("sleeper missing from the order of Delays", |p, r| remove(&mut p.delays, r)),
     ("dormant thread in the order of Delays", |p, r| named_asleep(p, 0, r)),
     ("ready thread in the order of Delays", |p, r| named_asleep(p, 1, r)),
@@ -77,7 +80,7 @@ pub const WAYS: [(&str, Break); 48] = [
     ("thread in no condition: number, of a thread in a list", no_such_condition_listed),
     ("thread in no condition: ready, not in the line", |p, r| remove(&mut p.line, r)),
     ("thread in no condition: waiting, not in the waits", |p, r| remove(&mut p.waits, r)),
-    ("thread in two conditions", in_two),
+    ("thread in two conditions", entries::in_two),
     ("more than T + 9 due, and so in all", dues::too_many_due),
     ("a Switch due first, another report last", dues::switch_in_front),
     ("a Switch due between other reports", dues::switch_in_between),
@@ -92,6 +95,22 @@ pub const WAYS: [(&str, Break); 48] = [
     ("nothing due, another thread reported than the chosen one", another_reported),
     ("nothing due, nobody reported though a thread is chosen", nobody_reported),
     ("nothing due, a thread reported though nobody is chosen", one_reported),
+    ("owner another thread, with a section of lower ceiling", tops::owner_of_less),
+    ("owner of a tie the one that took earlier", tops::owner_of_a_tie),
+    ("owner a thread that holds nothing, though another does", tops::owner_of_none),
+    ("owner nobody though something is held", tops::nobody_owns),
+    ("owner not below T", |p, r| {
+        let any = r.between(p.threads, 254);
+        set(&mut p.top.owner, Some(r.pick(&[p.threads, any, 254])))
+    }),
+    ("greatest ceiling one more", tops::one_more),
+    ("greatest ceiling one less", tops::one_less),
+    ("greatest ceiling 0 though a greater one is held", tops::zero),
+    ("greatest ceiling that of another held section", tops::ceiling_of_another),
+    ("owner and greatest ceiling of another hold", tops::both_of_another),
+    ("owner nobody, greatest ceiling 0, though something is held", tops::neither),
+    ("owner though nothing is held", tops::owner_of_nothing),
+    ("greatest ceiling though nothing is held", tops::ceiling_of_nothing),
 ];
 
 /// A state broken in any of these ways.
@@ -162,46 +181,6 @@ fn put<T>(list: &mut [T], random: &mut Random, value: fn(&mut Random) -> T) -> b
     let place = random.below(list.len());
     list[place] = value(random);
     true
-}
-
-/// Adds an entry somewhere, if the library's word has room for it.
-fn add<T>(list: &mut Vec<T>, entry: T, random: &mut Random) -> bool {
-    if list.len() >= state::ENTRIES {
-        return false;
-    }
-    list.insert(random.below(list.len() + 1), entry);
-    true
-}
-
-fn listed_beyond(list: &mut Vec<u16>, threads: usize, random: &mut Random) -> bool {
-    let thread = beyond(random, threads);
-    thread.is_some_and(|thread| add(list, thread, random))
-}
-
-fn listed_twice(list: &mut Vec<u16>, random: &mut Random) -> bool {
-    if list.is_empty() {
-        return false;
-    }
-    let thread = random.pick(list);
-    add(list, thread, random)
-}
-
-fn held_twice(parts: &mut Parts, random: &mut Random) -> bool {
-    if parts.holds.is_empty() {
-        return false;
-    }
-    let hold = (random.pick(&parts.holds).0, random.below(parts.threads) as u16);
-    add(&mut parts.holds, hold, random)
-}
-
-/// A number from the bound on that fits an entry of the library's words; none where the bound does not.
-fn beyond(random: &mut Random, bound: usize) -> Option<u16> {
-    let greatest = usize::from(state::GREATEST);
-    if bound > greatest {
-        return None;
-    }
-    let any = random.between(bound, greatest);
-    Some(random.pick(&[bound, any, greatest]) as u16)
 }
 
 /// An operand from the bound on that is not nobody, often one whose low byte is below it.
@@ -276,24 +255,6 @@ fn needs_from_s(parts: &mut Parts, random: &mut Random) -> bool {
     true
 }
 
-fn holder_beyond(parts: &mut Parts, random: &mut Random) -> bool {
-    let free: Vec<u16> = (0..parts.sections as u16)
-        .filter(|s| parts.holds.iter().all(|(held, _)| held != s))
-        .collect();
-    if free.is_empty() {
-        return false;
-    }
-    let section = random.pick(&free);
-    let thread = beyond(random, parts.threads);
-    thread.is_some_and(|thread| add(&mut parts.holds, (section, thread), random))
-}
-
-fn section_beyond(parts: &mut Parts, random: &mut Random) -> bool {
-    let thread = random.below(parts.threads) as u16;
-    let section = beyond(random, parts.sections);
-    section.is_some_and(|section| add(&mut parts.holds, (section, thread), random))
-}
-
 fn waited_beyond(parts: &mut Parts, random: &mut Random) -> bool {
     let Some(section) = beyond(random, parts.sections) else {
         return false;
@@ -312,52 +273,6 @@ fn expiry_beyond(parts: &mut Parts, random: &mut Random) -> bool {
     let expiry = LAST_EXPIRY + random.pick(&[1, 2, 65536, 294_901_760]);
     let (timer, period) = (random.below(TIMERS), random.word());
     within_claims(parts, |changed| changed.timers[timer] = (expiry, period))
-}
-
-fn remove(list: &mut Vec<u16>, random: &mut Random) -> bool {
-    if list.is_empty() {
-        return false;
-    }
-    list.remove(random.below(list.len()));
-    true
-}
-
-/// A thread that is in one condition by its number, and in another by a list.
-fn in_two(parts: &mut Parts, random: &mut Random) -> bool {
-    let thread = random.below(parts.threads);
-    let (state, entry) = (parts.conditions[thread].0, thread as u16);
-    if state != 1 && random.one_in(2) {
-        add(&mut parts.line, entry, random)
-    } else if state != 3 {
-        add(&mut parts.waits, entry, random)
-    } else {
-        false
-    }
-}
-
-/// One sleeper's place goes to another one, and the order keeps its length.
-fn listed_for_another(parts: &mut Parts, random: &mut Random) -> bool {
-    if parts.delays.len() < 2 {
-        return false;
-    }
-    random.shuffle(&mut parts.delays);
-    parts.delays[0] = parts.delays[1];
-    random.shuffle(&mut parts.delays);
-    true
-}
-
-/// A thread in that condition, beside the sleepers or in the place of one.
-fn named_asleep(parts: &mut Parts, condition: u8, random: &mut Random) -> bool {
-    let conditions = parts.conditions.iter().zip(0..);
-    let threads: Vec<u16> = conditions.filter(|(c, _)| c.0 == condition).map(|(_, thread)| thread).collect();
-    if threads.is_empty() {
-        return false;
-    }
-    let thread = random.pick(&threads);
-    if !parts.delays.is_empty() && random.one_in(2) {
-        remove(&mut parts.delays, random);
-    }
-    add(&mut parts.delays, thread, random)
 }
 
 fn another_reported(parts: &mut Parts, random: &mut Random) -> bool {

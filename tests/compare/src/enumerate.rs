@@ -7,6 +7,7 @@ use crate::answer::{breaches, Answer};
 use crate::bytes::{list, plan, Numbers};
 use crate::difference::{differ, Compared, Difference};
 use crate::family::Family;
+use crate::moves::{EMPTIED, HEIR, LEFT, LOST, LOWERED, OVER, SAME, UNDER};
 use crate::random::Random;
 use crate::sides::{check, watched, Pair};
 use crate::ticks::{AGAIN, AMONG, GONE, OTHER, OWED, TOGETHER};
@@ -20,6 +21,8 @@ pub struct Small {
     pub timers: u16,
     /// The records with which all its lists begin; with some of them there are no call lists.
     pub begins: Vec<Numbers>,
+    /// What their Takes and Gives show, besides what those of every plan with a section do.
+    pub moves: Vec<Answer>,
     /// How many follow.
     pub records: [usize; 2],
     pub calls: [usize; 2],
@@ -29,10 +32,10 @@ pub fn plans() -> Vec<Small> {
     vec![
         small("1 thread, no section", plan(0, &[1], &[0]), [12, 15], [9, 10]),
         small("1 thread, 1 section", plan(1, &[1], &[1]), [11, 14], [8, 9]),
-        small("1 thread, 2 sections", plan(2, &[1], &[3]), [10, 13], [7, 8]),
+        small("1 thread, 2 sections", plan(2, &[1], &[3]), [10, 13], [7, 8]).with_moves(&[SAME]),
         small("2 equal threads, no section", plan(0, &[1, 1], &[0, 0]), [11, 13], [7, 8]),
         small("2 equal threads, 1 section", plan(1, &[1, 1], &[1, 1]), [10, 12], [7, 8]),
-        small("2 threads, 1 section", plan(1, &[1, 2], &[1, 1]), [10, 12], [8, 9]),
+        small("2 threads, 1 section", plan(1, &[1, 2], &[1, 1]), [10, 12], [8, 9]).with_moves(&[LOST]),
         small("2 threads, 2 sections", plan(2, &[1, 2], &[3, 3]), [9, 12], [7, 8]),
         small("2 threads, 1 of 2 sections shared", plan(2, &[1, 2], &[1, 3]), [10, 12], [7, 8]),
         small("3 threads, 1 section", plan(1, &[1, 2, 3], &[1, 1, 1]), [9, 11], [7, 8]),
@@ -43,14 +46,18 @@ pub fn plans() -> Vec<Small> {
     ]
 }
 
-/// Plans whose lists begin where a few Ticks among reports meet with much.
+/// Plans whose lists begin where a few Ticks among reports, or a few Takes and Gives, meet with much.
 pub fn beginnings() -> Vec<Small> {
     let unshared = plan(0, &[1], &[0]);
     vec![
         small("2 threads, behind a wait", plan(2, &[1, 2], &[3, 3]), [9, 11], [0, 0])
+            .with_moves(&[SAME, HEIR])
             .behind("Create 0; Ready 0; Switch 0; Take 0; Won 0; Take 1; Won 0; Create 1; Ready 1; Switch 1; Take 0; Lost 1; Switch 0"),
         small("2 threads, between a Take and its Won", plan(1, &[1, 2], &[1, 1]), [9, 11], [0, 0])
             .behind("Create 0; Ready 0; Switch 0; Create 1; Ready 1; Switch 1; Delay 1; Switch 0; Tick; Take 0"),
+        small("2 threads, behind a Take of the lower ceiling", plan(2, &[1, 2], &[3, 1]), [9, 11], [0, 0])
+            .with_moves(&[OVER, UNDER, LEFT, LOWERED, SAME, EMPTIED])
+            .behind("Create 0; Ready 0; Switch 0; Take 1; Won 0; Create 1; Ready 1; Switch 1"),
         small("1 thread, behind two armings", unshared, [7, 9], [0, 0])
             .with_timers(2)
             .behind("Create 0; Ready 0; Switch 0; Arm 0; Start 1; Period 1; Late 0; Arm 1; Start 2; Period 2; Late 0"),
@@ -63,6 +70,7 @@ fn small(name: &'static str, plan: Vec<u8>, records: [usize; 2], calls: [usize; 
         plan,
         timers: 0,
         begins: Vec::new(),
+        moves: Vec::new(),
         records,
         calls,
     }
@@ -71,6 +79,11 @@ fn small(name: &'static str, plan: Vec<u8>, records: [usize; 2], calls: [usize; 
 impl Small {
     fn with_timers(self, timers: u16) -> Small {
         Small { timers, ..self }
+    }
+
+    fn with_moves(self, moves: &[Answer]) -> Small {
+        let moves = moves.to_vec();
+        Small { moves, ..self }
     }
 
     fn behind(self, text: &str) -> Small {
@@ -97,29 +110,30 @@ impl Small {
         records
     }
 
-    /// The rules that its lists reach, and what their Ticks show.
+    /// The rules that its lists reach, and what their Takes, Gives and Ticks show.
     pub fn reaches(&self) -> Vec<Answer> {
         let of_all = [breaches(21, 21), breaches(28, 30), vec![AMONG, AGAIN]].concat();
         let of_timers = match self.timers {
             0 => Vec::new(),
             _ => [breaches(31, 32), vec![OWED]].concat(),
         };
-        let mut reached = [of_all, of_timers].concat();
+        let mut reached = [of_all, of_timers, self.moves.clone()].concat();
         if self.begins.is_empty() {
             reached.extend(self.reaches_from_the_start());
         }
         reached
     }
 
-    /// That nobody runs, and a thread that wakes before the Switch behind its Delay; with two threads also one that wakes before that of the
-    /// other; with two equal ones sleepers of one tick in either order.
+    /// That nobody runs, and a thread that wakes before the Switch behind its Delay; with a section the Give of all that is held; with two
+    /// threads also one that wakes before the Switch of the other; with two equal ones sleepers of one tick in either order.
     fn reaches_from_the_start(&self) -> Vec<Answer> {
+        let of_sections = if self.plan[1] > 0 { vec![EMPTIED] } else { Vec::new() };
         let of_two = if self.plan[0] > 1 { vec![OTHER] } else { Vec::new() };
         let together = match self.plan[..] {
             [2, _, one, other, ..] if one == other => TOGETHER.to_vec(),
             _ => Vec::new(),
         };
-        [vec![Answer::Breach(22), GONE], of_two, together].concat()
+        [vec![Answer::Breach(22), GONE], of_sections, of_two, together].concat()
     }
 }
 

@@ -1,6 +1,6 @@
 //! Lent states: those that a run reaches, and well-formed ones that none does.
 
-use second::{Fault, Parts, Plan, Reply, Watch, LAST_EXPIRY, LAST_SLEEPER, LAST_TICK, NOBODY, TIMERS};
+use second::{Fault, Parts, Plan, Reply, Top, Watch, LAST_EXPIRY, LAST_SLEEPER, LAST_TICK, NOBODY, TIMERS};
 
 use crate::answer::Answer;
 use crate::bytes::Numbers;
@@ -9,6 +9,7 @@ use crate::dues::{make_due, some_report, some_switch, some_thread_or_nobody};
 use crate::random::Random;
 use crate::runs::{period, plan, run, some_timer, start, Run};
 use crate::sides::Pair;
+use crate::{moves, tops};
 
 /// A Period after which the count lost is the greatest that is written; no dump has so many Ticks.
 pub const CUT: Answer = Answer::Showed("a count of 65535");
@@ -28,6 +29,7 @@ pub fn well_formed(fault: Fault, random: &mut Random) -> Compared<Vec<Answer>> {
     let parts = formed_parts(random);
     let mut answers = some_steps(fault, &parts, 1, random)?;
     answers.extend(is_apart(&parts).then_some(APART));
+    answers.extend(moves::lent(&parts));
     Ok(answers)
 }
 
@@ -70,9 +72,9 @@ pub fn reached_parts(random: &mut Random) -> Parts {
     watch.parts().clone()
 }
 
-/// A state that question 12 lets pass: any conditions, with line, waits and Delays in any order, any holds, any timers, an arming at any
-/// stage, any reports due as far as there is room for them. With none due the chosen thread is the last reported one, with some due anyone
-/// is.
+/// A state that question 12 lets pass: any conditions, with line, waits and Delays in any order, any holds with their owner and greatest
+/// ceiling, any timers, an arming at any stage, any reports due as far as there is room for them. With none due the chosen thread is the last
+/// reported one, with some due anyone is.
 pub fn formed_parts(random: &mut Random) -> Parts {
     let plan = plan(random);
     formed_under(&plan, random)
@@ -95,12 +97,14 @@ pub fn formed_under(plan: &[u8], random: &mut Random) -> Parts {
         waits: shuffled(&conditions, 3, random),
         conditions,
         holds: some_holds(threads, sections, random),
+        top: Top::default(),
         timers: std::array::from_fn(|_| timer(tick, random)),
         arming: some_arming(tick, random),
         given: some_thread_or_nobody(threads, random),
         due: Vec::new(),
         stored,
     };
+    tops::keep(&mut parts);
     if random.one_in(4) {
         all_at_the_next_tick(&mut parts);
     }

@@ -7,6 +7,7 @@ use compare::answer::{breaches, refusals, Answer};
 use compare::calls::Calls;
 use compare::enumerate::{beginnings, covered, plans, Walk};
 use compare::family::{Family, Trial};
+use compare::moves::{FROM_THE_START, LENT};
 use compare::promise::CleanLists;
 use compare::random::Random;
 use compare::ticks::{AGAIN, AMONG, FULL, GONE, OTHER, OWED, TOGETHER, WOKEN};
@@ -153,7 +154,8 @@ fn every_call_list(tally: &mut Tally, long: bool) {
 
 fn random_dumps(tally: &mut Tally, inputs: u64) {
     let shown = [Answer::Clean, dumps::LONGEST, dumps::EXPIRY, dumps::LATE, FULL];
-    tally.random("honest", dumps::honest, inputs, &[&shown[..], &TOGETHER, &INTERRUPTS].concat());
+    let wanted = [&shown[..], &TOGETHER, &INTERRUPTS, &FROM_THE_START].concat();
+    tally.random("honest", dumps::honest, inputs, &wanted);
     let cut = [CLEAN.to_vec(), vec![dumps::INSIDE], refusals(&[5, 6])].concat();
     tally.random("cut short", dumps::cut, inputs, &cut);
     tally.random(
@@ -187,13 +189,15 @@ fn bench_lists(tally: &mut Tally, inputs: u64) {
 }
 
 fn lent_states(tally: &mut Tally, scale: &Scale) {
-    let wanted = [CLEAN.to_vec(), breaches(21, 32), refusals(&[7, 8]), INTERRUPTS.to_vec()].concat();
+    let shown = [INTERRUPTS.to_vec(), FROM_THE_START.to_vec()].concat();
+    let wanted = [CLEAN.to_vec(), breaches(21, 32), refusals(&[7, 8]), shown].concat();
     tally.random("lent, reached", lent::reached, scale.lent / 4, &wanted);
+    let of_any_state = [vec![lent::CUT, lent::APART, FULL], TOGETHER.to_vec(), LENT.to_vec()].concat();
     tally.random(
         "lent, well-formed",
         lent::well_formed,
         scale.lent,
-        &[wanted, refusals(&[12, 13]), vec![lent::CUT, lent::APART, FULL], TOGETHER.to_vec()].concat(),
+        &[wanted, refusals(&[12, 13]), of_any_state].concat(),
     );
     for (name, break_it) in broken::WAYS {
         let mut family = Family::new(&format!("lent, broken: {name}"));

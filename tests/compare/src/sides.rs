@@ -9,7 +9,7 @@ use crate::answer::Answer;
 use crate::bytes::{hexadecimal, list, Numbers};
 use crate::difference::{differ, Compared, Difference, Input};
 use crate::random::Random;
-use crate::{state, ticks};
+use crate::{moves, state, ticks};
 
 /// The whole check of both; the verdict that they share.
 pub fn check(fault: Fault, plan: &[u8], dump: &[u8]) -> Compared<Verdict> {
@@ -21,7 +21,7 @@ pub fn check(fault: Fault, plan: &[u8], dump: &[u8]) -> Compared<Verdict> {
     differ(watched(plan, dump), library, second)
 }
 
-/// The live steps of both from the plan's start, their states compared after every step; what its Ticks show.
+/// The live steps of both from the plan's start, their states compared after every step; what its Takes, Gives and Ticks show.
 pub fn steps(fault: Fault, plan: &[u8], records: &[Numbers]) -> Compared<BTreeSet<Answer>> {
     let mut shown = BTreeSet::new();
     let mut pair = match Pair::begin(fault, plan)? {
@@ -52,7 +52,7 @@ pub fn watched(plan: &[u8], dump: &[u8]) -> Input {
 pub struct Pair {
     library: beltcairn::Watch,
     second: second::Watch,
-    /// What the latest step has shown, if it was a clean Tick.
+    /// What the latest step has shown, if it was a clean Take, Give or Tick.
     shown: BTreeSet<Answer>,
 }
 
@@ -93,10 +93,11 @@ impl Pair {
 
     /// One step of both; the answer that they share.
     pub fn step(&mut self, record: Numbers) -> Compared<Reply> {
-        let before = (record.0 == 7).then(|| self.parts().clone());
+        let before = [5, 6, 7].contains(&record.0).then(|| self.parts().clone());
         let reply = self.compared_step(record)?;
         self.shown = match (before, reply) {
-            (Some(before), Reply::Clean { .. }) => ticks::shown(&before, self.parts()),
+            (Some(before), Reply::Clean { .. }) if record.0 == 7 => ticks::shown(&before, self.parts()),
+            (Some(before), Reply::Clean { .. }) => moves::shown(record, &before, self.parts()),
             _ => BTreeSet::new(),
         };
         Ok(reply)

@@ -1,7 +1,7 @@
 //! Between the library's watch state and the second implementation's parts. Nothing else here knows the layout of the former.
 
 use beltcairn::packed::{numbers, word};
-use beltcairn::{Arming, Holds, Machine, Plan, Queue, Report, Reports, Slots, State, Timers, Watch, ROOM};
+use beltcairn::{Arming, Holds, Machine, Plan, Queue, Report, Reports, Slots, State, Timers, Top, Watch, ROOM};
 use second::{Parts, NOBODY, TIMERS};
 
 use crate::random::Random;
@@ -26,7 +26,7 @@ pub fn lend(parts: &Parts, random: &mut Random) -> Watch {
         slots: slots(&parts.conditions, random),
         wakes: wakes(parts, random),
         queue: queue(&parts.line, random),
-        holds: holds(&parts.holds, random),
+        holds: holds(parts, random),
         waits: queue(&parts.waits, random),
         delays: queue(&parts.delays, random),
         reported: who(parts.given),
@@ -53,6 +53,7 @@ pub fn parts(watch: &Watch) -> Parts {
         conditions: conditions(machine, threads),
         line: threads_in(&machine.queue),
         holds: oldest_first(&machine.holds),
+        top: top_in(&machine.holds.top),
         waits: threads_in(&machine.waits),
         delays: threads_in(&machine.delays),
         timers: expiries_and_periods(&machine.timers),
@@ -166,12 +167,13 @@ fn threads_in(queue: &Queue) -> Vec<u16> {
 }
 
 /// The library has the latest hold first.
-fn holds(oldest_first: &[(u16, u16)], random: &mut Random) -> Holds {
-    let latest_first: Vec<(u16, u16)> = oldest_first.iter().rev().copied().collect();
+fn holds(parts: &Parts, random: &mut Random) -> Holds {
+    let latest_first: Vec<(u16, u16)> = parts.holds.iter().rev().copied().collect();
     Holds {
         sections: packed(|place| latest_first.get(place).map(|hold| hold.0.into()), random),
         threads: packed(|place| latest_first.get(place).map(|hold| hold.1.into()), random),
         count: latest_first.len(),
+        top: top(parts.top),
     }
 }
 
@@ -181,6 +183,23 @@ fn oldest_first(holds: &Holds) -> Vec<(u16, u16)> {
     let mut list: Vec<(u16, u16)> = latest_first.take(holds.count).collect();
     list.reverse();
     list
+}
+
+/// Panics at an owner that would be lent as another, or as nobody.
+fn top(kept: second::Top) -> Top {
+    let byte = |thread: usize| u8::try_from(thread).ok().filter(|owner| *owner != NO_THREAD);
+    let owner = kept.owner.map(|thread| byte(thread).expect("an owner below 255"));
+    Top {
+        owner: owner.unwrap_or(NO_THREAD),
+        ceiling: kept.ceiling,
+    }
+}
+
+fn top_in(top: &Top) -> second::Top {
+    second::Top {
+        owner: (top.owner != NO_THREAD).then_some(top.owner.into()),
+        ceiling: top.ceiling,
+    }
 }
 
 /// A timer that is not armed has any period.

@@ -125,11 +125,29 @@ pub enum Fault {
     OwedTimersAmongClaims,
     /// Of a lent state the one beside reports due, sleepers and timers is not counted.
     ClaimsWithoutOne,
+    /// A Give leaves the kept owner and ceiling as they were.
+    GiveKeepsTop,
+    /// A lost Take makes its caller the kept owner, if the section's ceiling is at or above the kept one.
+    LostTakeSetsTop,
+    /// After a Give the ceiling of the section given is kept.
+    GivenCeilingKept,
+    /// A section that is handed over leaves the kept owner and ceiling as the Give before it set them.
+    HandOverKeepsTop,
+    /// A section that is handed over leaves the owner where its ceiling is the one kept.
+    HandOverTie,
+    /// With nothing held any more the last owner stays the kept one.
+    LastOwnerKept,
+    /// Of a lent state the owner is not compared with the walk's.
+    OwnerNotAsked,
+    /// Of a lent state the greatest ceiling is not compared with the walk's.
+    CeilingNotAsked,
+    /// Of a lent state in which nothing is held neither is asked.
+    NothingHeldNotAsked,
 }
 
 impl Fault {
     /// Every mistake, without `None`.
-    pub const ALL: [Fault; 58] = [
+    pub const ALL: [Fault; 67] = [
         Fault::NeedsByteOrder,
         Fault::CountByteOrder,
         Fault::OperandByteOrder,
@@ -188,6 +206,15 @@ impl Fault {
         Fault::SwitchAmongClaims,
         Fault::OwedTimersAmongClaims,
         Fault::ClaimsWithoutOne,
+        Fault::GiveKeepsTop,
+        Fault::LostTakeSetsTop,
+        Fault::GivenCeilingKept,
+        Fault::HandOverKeepsTop,
+        Fault::HandOverTie,
+        Fault::LastOwnerKept,
+        Fault::OwnerNotAsked,
+        Fault::CeilingNotAsked,
+        Fault::NothingHeldNotAsked,
     ];
 
     /// The name as written above.

@@ -6,6 +6,7 @@ use crate::machine::{Condition, Hold, Machine};
 use crate::plan::Plan;
 use crate::records::{Report, NOBODY};
 use crate::timers::{Arming, Timer, Timers, TIMERS};
+use crate::top::Top;
 
 /// The greatest tick number of a lent state.
 pub const LAST_TICK: u64 = 4_000_000_000;
@@ -29,6 +30,8 @@ pub struct Parts {
     pub line: Vec<u16>,
     /// Section and thread, oldest first.
     pub holds: Vec<(u16, u16)>,
+    /// The owner of the holds and their greatest ceiling, as they are kept.
+    pub top: Top,
     pub waits: Vec<u16>,
     /// The sleeping threads in order of their Delay calls.
     pub delays: Vec<u16>,
@@ -61,6 +64,7 @@ impl Parts {
             conditions: machine.conditions.iter().map(|c| condition_numbers(*c)).collect(),
             line: numbers(&line),
             holds: holds.collect(),
+            top: machine.top,
             waits: numbers(&machine.waits),
             delays: numbers(&machine.sleepers()),
             timers: std::array::from_fn(|timer| timer_numbers(machine.timers.armed.get(&timer))),
@@ -118,19 +122,21 @@ impl Parts {
             NOBODY => None,
             thread => Some(below(thread, threads)?),
         };
-        Some(Machine {
+        let formed = Machine {
             fault,
             tick: self.tick,
             conditions: conditions?,
             line: all_below(&self.line, threads)?.into(),
             holds: holds?,
+            top: self.top,
             waits: all_below(&self.waits, threads)?,
             delays: Delays::in_order(&all_below(&self.delays, threads)?, threads),
             timers: self.timers()?,
             given,
             due: due?,
             plan,
-        })
+        };
+        formed.keeps_the_walked().then_some(formed)
     }
 
     /// The plan, if it passes questions 1 to 4.

@@ -18,6 +18,7 @@ mod records;
 mod rules;
 mod tick;
 mod timers;
+mod top;
 
 pub use bench::{bench, bench_with};
 pub use check::{check, check_with, Verdict};
@@ -30,3 +31,4 @@ pub use promise::{promise, promise_with, Seen};
 pub use records::{read_dump, read_list, Call, Record, Report, MOST_RECORDS, NOBODY};
 pub use rules::broken_rule;
 pub use timers::{lost, Arming, Timer, TIMERS};
+pub use top::Top;

@@ -9,6 +9,7 @@ use crate::fault::Fault;
 use crate::plan::Plan;
 use crate::records::{Call, Record, Report};
 use crate::timers::Timers;
+use crate::top::Top;
 
 #[derive(Clone, Copy, Debug, PartialEq, Eq)]
 pub enum Condition {
@@ -36,6 +37,8 @@ pub struct Machine {
     pub line: VecDeque<usize>,
     /// In order of taking.
     pub holds: Vec<Hold>,
+    /// Their owner and greatest ceiling, as they are kept.
+    pub top: Top,
     /// In order of their Take.
     pub waits: Vec<usize>,
     /// They put the sleeping threads in order.
@@ -55,6 +58,7 @@ impl Machine {
             conditions: vec![Condition::Dormant; plan.threads()],
             line: VecDeque::new(),
             holds: Vec::new(),
+            top: Top::default(),
             waits: Vec::new(),
             delays: Delays::none(plan.threads()),
             timers: Timers::default(),
@@ -71,32 +75,10 @@ impl Machine {
         self.plan.ceiling(section)
     }
 
-    /// The thread holding the section of greatest ceiling, on a tie the one taken later.
-    pub fn owner(&self) -> Option<usize> {
-        let mut best: Option<(u8, usize)> = None;
-        for hold in &self.holds {
-            let ceiling = self.ceiling(hold.section);
-            let replaces = match best {
-                None => true,
-                Some((greatest, _)) if self.fault == Fault::OwnerTie => ceiling > greatest,
-                Some((greatest, _)) => ceiling >= greatest,
-            };
-            if replaces {
-                best = Some((ceiling, hold.thread));
-            }
-        }
-        best.map(|(_, thread)| thread)
-    }
-
     /// The greater of the base and, for the owner, the greatest base among the waits.
     pub fn current(&self, thread: usize) -> u8 {
-        self.current_under(self.owner(), thread)
-    }
-
-    // The owner is the same for the whole line, so it is looked for once.
-    fn current_under(&self, owner: Option<usize>, thread: usize) -> u8 {
         let base = self.plan.base(thread);
-        if owner != Some(thread) {
+        if self.top.owner != Some(thread) {
             return base;
         }
         self.waits.iter().map(|waiter| self.plan.base(*waiter)).fold(base, u8::max)
@@ -104,13 +86,8 @@ impl Machine {
 
     /// The first in the line among those of greatest current priority.
     pub fn chosen(&self) -> Option<usize> {
-        let owner = self.owner();
         // Of equal maxima `max_by_key` gives the last it meets, which from behind is the first in the line.
-        self.line
-            .iter()
-            .rev()
-            .copied()
-            .max_by_key(|thread| self.current_under(owner, *thread))
+        self.line.iter().rev().copied().max_by_key(|thread| self.current(*thread))
     }
 
     /// The thread last reported as running; a Switch that is due counts as reported.
@@ -240,12 +217,15 @@ impl Machine {
     }
 
     fn take(&mut self, caller: usize, section: usize) {
+        let hold = Hold { section, thread: caller };
         if self.wins(caller, section) {
-            self.holds.push(Hold { section, thread: caller });
+            self.holds.push(hold);
+            self.keep_taken(hold);
             self.owe(Report::Won(caller));
         } else {
             self.leave_line(caller, Condition::Waiting(section));
             self.begin_to_wait(caller);
+            self.keep_after_lost(hold);
             self.owe(Report::Lost(caller));
         }
     }
@@ -277,6 +257,7 @@ impl Machine {
 
     fn give(&mut self, caller: usize, section: usize) {
         self.holds.retain(|hold| *hold != Hold { section, thread: caller });
+        self.keep_given(section);
         let Some(heir) = self.heir() else { return };
         let or_equal = self.fault == Fault::GiveAtOrAbove;
         if self.holds.iter().all(|hold| self.is_above(heir, hold.section, or_equal)) {
@@ -308,8 +289,10 @@ impl Machine {
             Condition::Waiting(wanted) if self.fault != Fault::HeirGetsGiven => wanted,
             _ => given,
         };
+        let hold = Hold { section, thread: heir };
         self.waits.retain(|waiter| *waiter != heir);
-        self.holds.push(Hold { section, thread: heir });
+        self.holds.push(hold);
+        self.keep_handed_over(hold);
         self.owe(Report::Won(heir));
         self.join_line(heir, self.fault == Fault::HeirAtFront);
         self.owe(Report::Ready(heir));

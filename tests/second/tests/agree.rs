@@ -186,12 +186,18 @@ const OF_TICKS: [Fault; 7] = [
     Fault::DelayFromSwitch,
 ];
 
-/// What question 12 does wrong.
-const OF_LENT_STATES: [Fault; 4] = [
+/// What question 12 does wrong, and what only lent states show: ties of ceilings, and an owner where nothing is held though a thread waits.
+const OF_LENT_STATES: [Fault; 10] = [
+    Fault::OwnerTie,
     Fault::SwitchDueAnywhere,
     Fault::SwitchAmongClaims,
     Fault::OwedTimersAmongClaims,
     Fault::ClaimsWithoutOne,
+    Fault::HandOverTie,
+    Fault::LastOwnerKept,
+    Fault::OwnerNotAsked,
+    Fault::CeilingNotAsked,
+    Fault::NothingHeldNotAsked,
 ];
 
 #[test]
@@ -210,15 +216,15 @@ fn interrupted_runs_tell_the_tick_faults_apart() {
 #[test]
 fn random_runs_tell_the_machine_faults_apart() {
     // These do not show in the dump of a list: its kinds and operands are allowed, its reports are the due ones, its calls come with nothing due,
-    // and its tick numbers are small.
+    // and its tick numbers are small. The last one needs four threads and their ceilings in one order, as in top.rs.
     let silent = [
         Fault::Questions7And8ByRecord,
         Fault::Rules29And30Swapped,
-        Fault::OwnerTie,
         Fault::Rule30LowByte,
         Fault::Rule31After21,
         Fault::Rule31OfCallsOnly,
         Fault::CountNotCapped,
+        Fault::GivenCeilingKept,
     ];
     let silent = [&silent[..], &OF_TICKS, &OF_LENT_STATES].concat();
     for fault in Fault::ALL.into_iter().filter(|f| !silent.contains(f)) {

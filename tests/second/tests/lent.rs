@@ -1,9 +1,9 @@
 //! The live step: questions 12, 7, 8 and 13, the stored breach, and lent states.
 
-use second::{Fault, Parts, Reply, Watch, LAST_EXPIRY, LAST_SLEEPER, LAST_TICK, NOBODY};
+use second::{Fault, Parts, Reply, Top, Watch, LAST_EXPIRY, LAST_SLEEPER, LAST_TICK, NOBODY};
 
-/// Threads 0 (ready, holds section 0), 1 (waits for 0), 2 (asleep) and 3 (dormant). Timer 2 is an alarm at 9, and 5 expires every third tick
-/// from 8 on.
+/// Threads 0 (ready, holds section 0 of ceiling 3), 1 (waits for 0), 2 (asleep) and 3 (dormant). Timer 2 is an alarm at 9, and 5 expires
+/// every third tick from 8 on.
 fn good() -> Parts {
     Parts {
         threads: 4,
@@ -14,6 +14,10 @@ fn good() -> Parts {
         conditions: vec![(1, 0), (3, 0), (2, 9), (0, 0)],
         line: vec![0],
         holds: vec![(0, 0)],
+        top: Top {
+            owner: Some(0),
+            ceiling: 3,
+        },
         waits: vec![1],
         delays: vec![2],
         timers: [(0, 0), (0, 0), (9, 0), (0, 0), (0, 0), (8, 3), (0, 0), (0, 0)],
@@ -187,7 +191,7 @@ fn timers_out_of_range() {
 
 #[test]
 fn lists_and_conditions() {
-    is_12(|p| p.holds.push((0, 1)));
+    is_12(|p| p.holds.insert(0, (0, 1)));
     passes(|p| p.holds.push((1, 1)));
     is_12(|p| p.line.push(0));
     is_12(|p| p.waits.push(1));
@@ -311,49 +315,6 @@ fn a_due_switch_counts_as_reported() {
     assert_eq!(watch.step(17, 0), Reply::Clean { due: 0 });
     assert_eq!(watch.parts().given, 0);
     assert_eq!(watch.step(3, 0), Reply::Clean { due: 0 });
-}
-
-/// Threads 0 and 1 hold sections of equal ceiling, which no clean dump leads to, and 2 waits. Thread 3, above them all, runs.
-fn tie() -> Parts {
-    Parts {
-        threads: 4,
-        sections: 2,
-        bases: vec![1, 1, 2, 3],
-        needs: vec![1, 2, 3, 0],
-        conditions: vec![(1, 0), (1, 0), (3, 0), (1, 0)],
-        line: vec![0, 1, 3],
-        holds: vec![(0, 0), (1, 1)],
-        waits: vec![2],
-        given: 3,
-        ..Parts::default()
-    }
-}
-
-#[test]
-fn the_owner_on_a_tie_is_the_one_that_took_later() {
-    let mut watch = Watch::from_parts(tie());
-    assert_eq!(watch.step(4, 0), Reply::Clean { due: 1 });
-    assert_eq!(watch.parts().due, vec![(17, 1)]);
-    let mut faulty = Watch::from_parts_with(Fault::OwnerTie, tie());
-    assert_eq!(faulty.step(4, 0), Reply::Clean { due: 1 });
-    assert_eq!(faulty.parts().due, vec![(17, 0)]);
-}
-
-#[test]
-fn the_caller_is_the_chosen_thread() {
-    // Without thread 3, 1 is the caller, the owner raised to 2: it may give section 1 only.
-    let alone = Parts {
-        conditions: vec![(1, 0), (1, 0), (3, 0), (0, 0)],
-        line: vec![0, 1],
-        given: 1,
-        ..tie()
-    };
-    let mut watch = Watch::from_parts(alone.clone());
-    assert_eq!(watch.step(6, 0), Reply::Broken(27));
-    let mut watch = Watch::from_parts(alone);
-    // Ceiling 2 of section 0 is still held, so thread 2 loses; 0 is the owner now.
-    assert_eq!(watch.step(6, 1), Reply::Clean { due: 2 });
-    assert_eq!(watch.parts().due, vec![(19, 2), (17, 0)]);
 }
 
 #[test]

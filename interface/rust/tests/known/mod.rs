@@ -19,6 +19,23 @@ pub struct Run {
     pub verdict: Verdict,
 }
 
+/// Numbers in no order, the same in every run (xorshift).
+pub struct Numbers(pub u64);
+
+impl Numbers {
+    pub fn below(&mut self, n: usize) -> usize {
+        self.0 ^= self.0 << 13;
+        self.0 ^= self.0 >> 7;
+        self.0 ^= self.0 << 17;
+        (self.0 % n as u64) as usize
+    }
+
+    pub fn bytes(&mut self, most: usize) -> Vec<u8> {
+        let n = self.below(most + 1);
+        (0..n).map(|_| self.below(256) as u8).collect()
+    }
+}
+
 /// The bytes of a dump or a call list.
 pub fn bytes(records: &[(u8, u16)]) -> Vec<u8> {
     let mut bytes = (records.len() as u16).to_le_bytes().to_vec();

@@ -2,7 +2,10 @@
 
 use super::PLAN_A;
 use beltcairn::packed::numbers;
-use beltcairn::{Queue, Reply, Report, State, Watch};
+use beltcairn::{Holds, Machine, Queue, Reply, Report, State, Top, Watch};
+
+/// Nobody and 0, as nothing is held.
+pub const NOTHING_HELD: Top = Top { owner: 255, ceiling: 0 };
 
 /// Clean steps.
 pub fn steps(watch: &mut Watch, records: &[(u8, u16)]) {
@@ -19,6 +22,31 @@ pub fn is_refused(mut watch: Watch, question: u8, kind: u8, operand: u16) {
 
 pub fn listed(queue: &Queue) -> Vec<u8> {
     numbers(queue.items)[..queue.count].to_vec()
+}
+
+/// Section and thread of each hold, the latest first.
+pub fn held(holds: &Holds) -> Vec<(u8, u8)> {
+    let pairs = numbers(holds.sections).into_iter().zip(numbers(holds.threads));
+    pairs.take(holds.count).collect()
+}
+
+/// The greatest base priority among threads that need the section, 0 if none does.
+fn ceiling(m: &Machine, section: u8) -> u8 {
+    let needs = |thread: &usize| m.plan.needs[*thread] >> section & 1 == 1;
+    let bases = (0..m.plan.threads).filter(needs).map(|thread| m.plan.bases[thread]);
+    bases.max().unwrap_or(0)
+}
+
+/// What a walk over the holds finds. They stand with the latest first, so on a tie the one found first counts.
+pub fn walked(m: &Machine) -> Top {
+    held(&m.holds).into_iter().fold(NOTHING_HELD, |top, (section, owner)| {
+        let ceiling = ceiling(m, section);
+        match top {
+            Top { owner: 255, .. } => Top { owner, ceiling },
+            _ if ceiling > top.ceiling => Top { owner, ceiling },
+            _ => top,
+        }
+    })
 }
 
 pub fn owed(state: &State) -> Vec<(u8, u16)> {
@@ -42,6 +70,7 @@ pub fn made() -> Watch {
     m.wakes[1] = 9;
     (m.queue.items, m.queue.count) = (0, 1);
     (m.holds.sections, m.holds.threads, m.holds.count) = (0, 0, 1);
+    m.holds.top = Top { owner: 0, ceiling: 3 };
     (m.waits.items, m.waits.count) = (2, 1);
     (m.delays.items, m.delays.count) = (1, 1);
     m.reported = 0;

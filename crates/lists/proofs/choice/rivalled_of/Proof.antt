@@ -1,35 +1,27 @@
--- `rivalled_of` meets its contract: the owner and the urgency that it finds, or an urgency of 0 where nobody waits, tell every current priority.
+-- `rivalled_of` meets its contract: the owner's number and the urgency that it finds tell every current priority.
 use mathlib.Core.Path.{_∙_}
-use mathlib.Core.Logic.{⊎-elim}
 use native.Mathlib.Omega.{arith}
+use borrow.Author.Needs.{needs}
 use Rattle.lists.specs.Words.{entryOf}
-use Rattle.lists.specs.Lists.{queued, held}
-use Rattle.lists.proofs.Laws.{queued-empty, nibbles-small}
-use Rattle.lists.proofs.Current.{Tells, found-owner, no-urgency, rivalled-by}
+use Rattle.lists.specs.Lists.{queued}
+use Rattle.lists.proofs.Laws.{nibbles-small}
+use Rattle.lists.proofs.Current.{rivalled-by}
 use Rattle.lists.proofs.choice.rivalled_of.Statement.{statement}
 use Rattle.lists.proofs.choice.rivalled_of.Tie as tie
 
-owner-requires : tie.Need-owner-requires
-owner-requires c κs = c .before .before .pre .0 .holds'
-
 urgency-requires : tie.Need-urgency-requires
-urgency-requires c κs = c .before .before .before .pre .0 .waits'
+urgency-requires c κs = search needs
 
 rivalled-requires : tie.Need-rivalled-requires
-rivalled-requires c κs = let k = c .before .before .pre in (k .0 .queue', k .1)
+rivalled-requires c κs = let k = c .before .pre in (k .0, k .2)
 
 returns : tie.Need-returns
 returns c =
-    let j = c .before in
-    let s = j .before .before in
+    let s = c .before .before in
     let a = s .args in
     let base = entryOf (a .bases) in
-    let tells : Tells base (j .if1 .owner) (j .if1 .urgency) (a .ceilings .now) (held (a .holds)) (queued (a .waits)) =
-    ⊎-elim
-    (λ w. found-owner base (a .ceilings .now) (held (a .holds)) (queued (a .waits)) (w .3 ∙ w .1 .ensures) (w .4 ∙ w .2 .ensures))
-    (λ w. no-urgency base (a .ceilings .now) (held (a .holds)) (w .2) (queued-empty (a .waits) (omega (arith, w .0 .left))))
-    (j .if1 .came) in
-    c .rivalled .ensures ∙ rivalled-by tells (queued (a .queue)) (λ t i. omega (arith, nibbles-small (a .queue .count) (a .queue .items) t i)) (a .thread) (omega (arith, s .pre .1))
+    rw (c .before .urgency .ensures) at (c .rivalled .ensures)
+    ∙ rivalled-by base (a .owner) (queued (a .waits)) (queued (a .queue)) (λ t i. omega (arith, nibbles-small (a .queue .count) (a .queue .items) t i)) (a .thread) (omega (arith, s .pre .2))
 
 pub rivalled-of-spec : {M : Type 1} → statement M
-rivalled-of-spec = tie.close (tie.spec owner-requires urgency-requires rivalled-requires returns)
+rivalled-of-spec = tie.close (tie.spec urgency-requires rivalled-requires returns)

@@ -14,11 +14,11 @@ use Rattle.lists.proofs.holds.Holds.others.Statement.{statement}
 use Rattle.lists.proofs.holds.Holds.others.Tie as tie
 
 abbrev Inv-loop : tie.InvT-loop
-Inv-loop section thread ss₀ ts₀ left₀ sections₀ threads₀ n₀ ss ts left sections threads n =
+Inv-loop section thread top ss₀ ts₀ left₀ sections₀ threads₀ n₀ ss ts left sections threads n =
     (n + left ≤ 16) × KeptLeft (λ h. not (isHold section thread h)) (heldIn left₀ ss₀ ts₀) n sections threads left ss ts
 
 abbrev μ-loop : tie.MeasureT-loop
-μ-loop section thread ss₀ ts₀ left₀ sections₀ threads₀ n₀ ss ts left sections threads n = left
+μ-loop section thread top ss₀ ts₀ left₀ sections₀ threads₀ n₀ ss ts left sections threads n = left
 
 loop-holds : tie.Need-loop-holds Inv-loop μ-loop
 loop-holds c = (omega arith, refl)
@@ -52,7 +52,7 @@ loop-less c = search needs
 
 -- whether a hold stays, as the arguments have it
 abbrev stays : tie.At-loop Inv-loop μ-loop → state.Hold → Bool
-stays k h = not (isHold (k .before .args .section) (k .before .args .thread) h)
+stays k h = not (isHold (k .before .before .args .section) (k .before .before .args .thread) h)
 
 -- the test's flag is false where the hold stays
 flag : (c : tie.Joined1 Inv-loop μ-loop) → not (c .if1 .if2) ≡ stays (c .before .before) (firstHold (c .before .before .loop .ss) (c .before .before .loop .ts))
@@ -65,7 +65,7 @@ loop-again c =
     let j = r .before .before in
     let k = j .before .before in
     let l = k .loop in
-    (omega arith, rw (r .with-nibble .ensures, c .with-nibble2 .ensures) (kept (stays k) (held (k .before .args .self)) (l .n) (l .sections) (l .threads) (l .left) (l .ss) (l .ts) (omega arith) (l .inv .1) (sym (flag j) ∙ r .before .if2 .taken)))
+    (omega arith, rw (r .with-nibble .ensures, c .with-nibble2 .ensures) (kept (stays k) (held (k .before .before .args .self)) (l .n) (l .sections) (l .threads) (l .left) (l .ss) (l .ts) (omega arith) (l .inv .1) (sym (flag j) ∙ r .before .if2 .taken)))
 
 loop-less-2 : tie.Need-loop-less-2 Inv-loop μ-loop
 loop-less-2 c = search needs
@@ -74,13 +74,13 @@ loop-again-2 : tie.Need-loop-again-2 Inv-loop μ-loop
 loop-again-2 c =
     let k = c .before .before .before in
     let l = k .loop in
-    (omega arith, dropped (stays k) (held (k .before .args .self)) (l .n) (l .sections) (l .threads) (l .left) (l .ss) (l .ts) (omega arith) (l .inv .1) (sym (flag (c .before)) ∙ c .if2 .left))
+    (omega arith, dropped (stays k) (held (k .before .before .args .self)) (l .n) (l .sections) (l .threads) (l .left) (l .ss) (l .ts) (omega arith) (l .inv .1) (sym (flag (c .before)) ∙ c .if2 .left))
 
 returns : tie.Need-returns Inv-loop μ-loop
 returns c =
     let k = c .before in
     let l = k .loop in
-    all-kept (stays k) (held (k .before .args .self)) (l .n) (l .sections) (l .threads) (l .left) (l .ss) (l .ts) (omega arith) (l .inv .1)
+    all-kept (stays k) (held (k .before .before .args .self)) (l .n) (l .sections) (l .threads) (l .left) (l .ss) (l .ts) (omega arith) (l .inv .1)
 
 pub others-spec : {M : Type 1} → statement M
 others-spec =

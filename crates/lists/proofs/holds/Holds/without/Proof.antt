@@ -1,46 +1,27 @@
--- `Holds::without` meets its contract: the latest hold, if it is the one, goes, and otherwise all others are kept.
-use mathlib.Core.Path.{sym, _∙_}
+-- `Holds::without` meets its contract: what is left is walked over, and there is no more of it than before.
+use mathlib.Core.Path.{ap}
 use mathlib.Core.Bool.{not}
-use mathlib.Core.List.{_∷_}
-use Prim.Native.Nat.{_-_, _/_, _≤_}
 use native.Mathlib.Omega.{arith}
 use borrow.Author.Needs.{needs}
-use borrow.Author.Tests.{eq-eqb}
-use Rattle.model.specs.Searches.{filter}
+use lib.ListN.{length}
 use Rattle.model.specs.State.{isHold}
-use Rattle.model.specs.Formed.{times}
-use Rattle.lists.specs.Lists.{heldIn}
-use Rattle.lists.proofs.Holdings.{firstHold, turn, only-first}
+use Rattle.lists.specs.Lists.{held}
+use Rattle.lists.proofs.Holdings.{times-bound}
+use Rattle.lists.proofs.Laws.{length-held}
 use Rattle.lists.proofs.holds.Holds.without.Statement.{statement}
 use Rattle.lists.proofs.holds.Holds.without.Tie as tie
 
-cast-s : tie.Need-cast-s
-cast-s c = search needs
+ended-requires : tie.Need-ended-requires
+ended-requires c κs = search needs
 
-cast-t : tie.Need-cast-t
-cast-t c = search needs
-
-sub-t12 : tie.Need-sub-t12
-sub-t12 c = search needs
+walk-requires : tie.Need-walk-requires
+walk-requires c κs =
+    let k = c .before in
+    let a = k .args in
+    omega (arith, k .pre .0, length-held (c .ended .result), ap length (c .ended .ensures), length-held (a .self), times-bound (λ h. not (isHold (a .section) (a .thread) h)) (held (a .self)))
 
 returns : tie.Need-returns
-returns c =
-    let w = c .before .before .before in
-    let k = w .before .before in
-    let b = k .before .before .before .before in
-    let a = b .args in
-    let hs = a .self in
-    let rest = heldIn (hs .count - 1) (hs .sections / 16) (hs .threads / 16) in
-    let p = isHold (a .section) (a .thread) in
-    let whole = turn (filter (λ h. not (p h))) (hs .count) (hs .sections) (hs .threads) (omega (arith, k .if1 .taken)) in
-    let few : times p (firstHold (hs .sections) (hs .threads) ∷ rest) ≤ 1 = omega (arith, b .pre .1, turn (times p) (hs .count) (hs .sections) (hs .threads) (omega (arith, k .if1 .taken))) in
-    sym (whole ∙ only-first p (firstHold (hs .sections) (hs .threads)) rest (rw (eq-eqb _ _ (w .before .if2 .taken)) (w .if3 .taken)) few)
-
-others-requires : tie.Need-others-requires
-others-requires c κs = search needs
-
-returns-2 : tie.Need-returns-2
-returns-2 c = search needs
+returns c = (c .before .ended .ensures, c .walk .ensures)
 
 pub without-spec : {M : Type 1} → statement M
-without-spec = tie.close (tie.spec cast-s cast-t sub-t12 returns others-requires returns-2)
+without-spec = tie.close (tie.spec ended-requires walk-requires returns)

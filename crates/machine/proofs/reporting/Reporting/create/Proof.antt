@@ -68,6 +68,7 @@ made c =
     admits e refl (w .0 .taken) (w .4) refl
     (record {
       plan' = refl;
+      keeps = s .pre .asks .stands .keeps;
       seen =
           alike refl
           (ap (λ (k : Slots). conditionsOf (m .plan .threads) k (m .wakes)) (w .1 .ensures) ∙ placed-seen (m .plan .threads) (m .slots) (m .wakes) (s .args .thread) 1 (omega arith))
@@ -76,7 +77,7 @@ made c =
           (told (c .making .ensures) (w .5) (w .3 .ensures))
           refl;
     }))
-    (λ w. refuses e (w .0 .left) (w .1) refl (told (c .making .ensures) (w .2) (k .before .none .ensures)))
+    (λ w. refuses e (s .pre .asks .stands .keeps) (w .0 .left) (w .1) refl (told (c .making .ensures) (w .2) (k .before .none .ensures)))
     (j .if1 .came)
 
 chosen-requires : tie.Need-chosen-requires

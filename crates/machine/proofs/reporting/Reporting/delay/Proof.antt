@@ -94,6 +94,7 @@ made c none' =
     admits e (by r (λ y. delay y n)) (w .0 .taken) (w .7) refl
     (record {
       plan' = refl;
+      keeps = s .pre .asks .stands .keeps;
       seen =
           alike refl
           (ap (λ (k : Slots). conditionsOf (m .plan .threads) k (set (m .wakes) x (w .2 .result))) (w .3 .ensures)
@@ -106,7 +107,7 @@ made c none' =
           none'
           refl;
     }))
-    (λ w. refuses e (w .0 .left) (w .1) refl none')
+    (λ w. refuses e (s .pre .asks .stands .keeps) (w .0 .left) (w .1) refl none')
     (c .if1 .came)
 
 none-requires : tie.Need-none-requires

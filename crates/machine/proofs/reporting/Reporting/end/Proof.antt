@@ -58,6 +58,7 @@ made c none' =
     admits e (by r end) (w .0 .taken) (w .3) refl
     (record {
       plan' = refl;
+      keeps = s .pre .asks .stands .keeps;
       seen =
           alike refl
           (ap (λ (k : Slots). conditionsOf (m .plan .threads) k (m .wakes)) (w .1 .ensures) ∙ placed-seen (m .plan .threads) (m .slots) (m .wakes) (s .args .self .machine .reported) 0 (omega arith))
@@ -66,7 +67,7 @@ made c none' =
           none'
           refl;
     }))
-    (λ w. refuses e (w .0 .left) (w .1) refl none')
+    (λ w. refuses e (s .pre .asks .stands .keeps) (w .0 .left) (w .1) refl none')
     (c .if1 .came)
 
 none-requires : tie.Need-none-requires

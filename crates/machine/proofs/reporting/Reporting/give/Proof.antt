@@ -6,6 +6,7 @@ use mathlib.Core.List.{List, [], _∷_, List·Memᴰ as Mem}
 use mathlib.Core.Option.{Option, none, some}
 use Prim.Native.Nat.{ℕ, _<_}
 use native.Mathlib.Omega.{arith}
+use borrow.Author.Needs.{needs}
 use lib.ListN.{length}
 use Rattle.model.specs.Searches.{_▷_, filter, firstGreatest}
 use Rattle.model.specs.Plan.{Plan}
@@ -30,7 +31,8 @@ use Rattle.lists.proofs.Laws.{length-held}
 use Rattle.clock.specs.View.{numberAt}
 use Rattle.machine.proofs.Views.{condition-at, placed-seen}
 use Rattle.machine.proofs.Room.{waits-once, waiting-known, waiting-fits, waiting-room, held-once, give-room}
-use Rattle.machine.proofs.Chosen.{listed, above-is, heir-same, inherits-same, waits-positive}
+use Rattle.machine.proofs.Keeping.{keeps-walked, keeps-gained}
+use Rattle.machine.proofs.Chosen.{ceiling-in, ceilings-are, listed, above-is, heir-same, inherits-same, waits-positive}
 use Rattle.machine.proofs.Meets.{alike, told}
 use Rattle.machine.proofs.Outcomes.{give-asked, call-settles, quiet-answers}
 use Rattle.machine.proofs.reporting.Reporting.give.Statement.{statement}
@@ -46,7 +48,7 @@ heirIn m = firstGreatest (baseIn (m .plan .threads) (m .plan .bases)) (queued (m
 
 module _ (m : Machine) (f : Facts m) (who : ℕ) (e : who ≡ numbered (firstGreatest (entryOf (m .plan .bases)) (queued (m .waits)))) where
   is-heir : who ≡ numbered (heirIn m)
-  is-heir = e ∙ ap numbered (heir-same (m .plan .bases) [] (listed f))
+  is-heir = e ∙ ap numbered (heir-same (m .plan .bases) (listed f))
 
   -- an heir waits
   waits-for : (who ≡ 255 → ⊥) → Mem who (queued (m .waits))
@@ -63,7 +65,7 @@ module _ (m : Machine) (f : Facts m) (who : ℕ) (e : who ≡ numbered (firstGre
   -- where nobody waits nobody inherits, so whoever inherits is a thread
   somebody : (ceilings : List ℕ) (hs : List Hold) {r : Bool} → r ≡ inheritsIn (entryOf (m .plan .bases)) ceilings hs (firstGreatest (entryOf (m .plan .bases)) (queued (m .waits))) → r ≡ true → who ≡ 255 → ⊥
   somebody ceilings hs q t k =
-      true≢false (sym t ∙ q ∙ inherits-same (m .plan .bases) ceilings (listed f) hs ∙ ap (inheritsIn (baseIn (m .plan .threads) (m .plan .bases)) ceilings hs) (nobody k))
+      true≢false (sym t ∙ q ∙ inherits-same (m .plan .bases) (listed f) ceilings hs ∙ ap (inheritsIn (baseIn (m .plan .threads) (m .plan .bases)) ceilings hs) (nobody k))
 
   -- the section that an heir wants is the one that its bits say
   wants-is : (who ≡ 255 → ⊥) → nibble (m .slots .wants) who ≡ wanted (condition (idle m) who)
@@ -102,7 +104,7 @@ tested : (m : Machine) (ceilings : List ℕ) → (f : Facts m) → Ceilings m ce
 tested m ceilings f c w e {hs} {left} z r v q k =
     sym
     (q
-    ∙ inherits-same (m .plan .bases) ceilings (listed f) hs
+    ∙ inherits-same (m .plan .bases) (listed f) ceilings hs
     ∙ ap (inheritsIn (baseIn (m .plan .threads) (m .plan .bases)) ceilings hs) e
     ∙ above-is m (f .valid) c w hs
     ∙ ap (aboveAll (planOf m) w) z)
@@ -113,7 +115,7 @@ none-requires c κs = tt
 
 -- what is known of the machine that came
 known : (s : tie.Start) → Facts (s .args .self .machine)
-known s = facts (give-asked (s .pre) .asked .formed)
+known s = facts (give-asked (s .pre .calls) .asked .formed)
 
 give-rule-requires : tie.Need-give-rule-requires
 give-rule-requires c κs = listed (known (c .before .before .before)) .counts .holds'
@@ -123,7 +125,7 @@ start c = c .before .before .before .before
 
 -- where no rule is broken, what the rules of Give say holds
 granted : (c : tie.Then1) → (let s = start (c .before) in Gives (s .args .self .machine) (s .args .self .machine .reported) (s .args .section))
-granted c = let a = give-asked (start (c .before) .pre) in gives a (sym (give-rule a) ∙ sym (c .before .give-rule .ensures) ∙ c .if1 .taken)
+granted c = let a = give-asked (start (c .before) .pre .calls) in gives a (sym (give-rule a) ∙ sym (c .before .give-rule .ensures) ∙ c .if1 .taken)
 
 without-requires : tie.Need-without-requires
 without-requires c κs =
@@ -133,7 +135,7 @@ without-requires c κs =
 
 -- the hold that ended leaves room for another
 left-room : (c : tie.After-without) → c .without .result .count < 16
-left-room c = omega (arith, length-held (c .without .result), ap length (c .without .ensures), give-room (granted (c .before)))
+left-room c = omega (arith, length-held (c .without .result), ap length (c .without .ensures .0), give-room (granted (c .before)))
 
 find-heir-requires : tie.Need-find-heir-requires
 find-heir-requires c κs =
@@ -157,20 +159,26 @@ heir-below c =
 wanted-requires : tie.Need-wanted-requires
 wanted-requires c κs = heir-below c
 
+cast-ceiling : tie.Need-cast-ceiling
+cast-ceiling c = search needs
+
+element-copy-out-ceiling : tie.Need-element-copy-out-ceiling
+element-copy-out-ceiling c = omega (arith, c .wanted .ensures)
+
 push-requires : tie.Need-push-requires
 push-requires c κs =
-    let t = c .before in
-    (left-room (t .before .before), omega (arith, c .wanted .ensures), heir-below t)
+    let t = c .before .before in
+    (left-room (t .before .before), omega (arith, c .before .wanted .ensures), heir-below t)
 
 without-requires-2 : tie.Need-without-requires-2
-without-requires-2 c κs = waits-once (known (start (c .before .before .before .before .before .before))) (c .before .before .before .find-heir .result .who)
+without-requires-2 c κs = waits-once (known (start (c .before .before .before .before .before .before .before))) (c .before .before .before .before .find-heir .result .who)
 
 placed-requires : tie.Need-placed-requires
-placed-requires c κs = (heir-below (c .before .before .before), omega arith)
+placed-requires c κs = (heir-below (c .before .before .before .before), omega arith)
 
 push-requires-2 : tie.Need-push-requires-2
 push-requires-2 c κs =
-    let t = c .before .before .before .before in
+    let t = c .before .before .before .before .before in
     let h = t .before in
     let s = start (h .before .before .before) in
     let f = known s in
@@ -196,34 +204,36 @@ made c =
     let m = s .args .self .machine in
     let x = s .args .self .machine .reported in
     let n = s .args .section in
-    let a = give-asked (s .pre) in
+    let a = give-asked (s .pre .calls) in
     let f = known s in
     let q = r .give-rule .ensures ∙ give-rule a in
     let none' = r .before .before .none .ensures in
     ⊎-elim
     (λ v.
     let g = gives a (sym q ∙ v .0 .taken) in
-    let left = v .1 .ensures in
+    let left = v .1 .ensures .0 in
     let t = v .2 .result .who in
+    let walked = keeps-walked (planOf m) (v .1 .result) (ceilings-are m (f .valid) (s .pre .ceilings')) (v .1 .ensures .1) in
     let e = v .2 .ensures in
     admits q (by (g .runs) (λ y. give (planOf m) y n)) (v .0 .taken) (v .4) refl
     (⊎-elim
     (λ w.
     let d = somebody m f t (e .0) (s .args .ceilings .now) (held (v .1 .result)) (e .1) (w .0 .taken) in
     let o = named (heirIn m) t (is-heir m f t (e .0)) d in
-    rw (w .7, w .9)
+    rw (w .8, w .10)
     (record {
       plan' = refl;
+      keeps = keeps-gained (planOf m) (v .1 .result) (w .3 .result) (w .1 .result) t walked (ceiling-in m (f .valid) (s .pre .ceilings') (w .1 .result)) (w .3 .ensures .0) (w .3 .ensures .1);
       seen =
           won-seen (planOf m) x n (idle m) t o
-          (tested m (s .args .ceilings .now) f (s .pre .asks .ceilings') t o left (v .2 .result .free) true (e .1) (w .0 .taken))
+          (tested m (s .args .ceilings .now) f (s .pre .ceilings') t o left (v .2 .result .free) true (e .1) (w .0 .taken))
           (alike refl
-          (ap (λ (k : Slots). conditionsOf (m .plan .threads) k (m .wakes)) (w .4 .ensures) ∙ placed-seen (m .plan .threads) (m .slots) (m .wakes) t 1 (omega arith))
-          (w .5 .ensures)
-          (w .2 .ensures ∙ ap₂ (λ (k : ℕ) (hs : List Hold). hold k t ∷ hs) (w .1 .ensures ∙ wants-is m f t (e .0) d) left)
-          (w .3 .ensures)
+          (ap (λ (k : Slots). conditionsOf (m .plan .threads) k (m .wakes)) (w .5 .ensures) ∙ placed-seen (m .plan .threads) (m .slots) (m .wakes) t 1 (omega arith))
+          (w .6 .ensures)
+          (w .3 .ensures .0 ∙ ap₂ (λ (k : ℕ) (hs : List Hold). hold k t ∷ hs) (w .1 .ensures ∙ wants-is m f t (e .0) d) left)
+          (w .4 .ensures)
           refl refl
-          (told (c .making .ensures) (v .5 ∙ w .8) (w .6 .ensures))
+          (told (c .making .ensures) (v .5 ∙ w .9) (w .7 .ensures))
           refl);
     }))
     (⊎-elim
@@ -232,29 +242,30 @@ made c =
     rw (w .3, w .5)
     (record {
       plan' = refl;
+      keeps = walked;
       seen =
           lost-seen (planOf m) x n (idle m) t o
-          (tested m (s .args .ceilings .now) f (s .pre .asks .ceilings') t o left (v .2 .result .free) false (e .1) (w .0 .left))
+          (tested m (s .args .ceilings .now) f (s .pre .ceilings') t o left (v .2 .result .free) false (e .1) (w .0 .left))
           (alike refl refl refl left refl refl refl (told (c .making .ensures) (v .5 ∙ w .4) (w .2 .ensures)) refl);
     }))
     (λ w.
     rw (w .2, w .4)
-    (record { plan' = refl; seen = none-seen (planOf m) x n (idle m) (nobody m f t (e .0) (w .1 .left)) (alike refl refl refl left refl refl refl (told (c .making .ensures) (v .5 ∙ w .3) none') refl) })))
+    (record { plan' = refl; keeps = walked; seen = none-seen (planOf m) x n (idle m) (nobody m f t (e .0) (w .1 .left)) (alike refl refl refl left refl refl refl (told (c .making .ensures) (v .5 ∙ w .3) none') refl) })))
     (v .3 .came)))
-    (λ v. refuses q (v .0 .left) (v .1) refl (told (c .making .ensures) (v .2) none'))
+    (λ v. refuses q (s .pre .calls .asks .stands .keeps) (v .0 .left) (v .1) refl (told (c .making .ensures) (v .2) none'))
     (j .if1 .came)
 
 chosen-requires : tie.Need-chosen-requires
-chosen-requires c κs = call-settles (start (c .before .before) .pre) (made c) .chooses
+chosen-requires c κs = call-settles (start (c .before .before) .pre .calls) (made c) .chooses
 
 owing-requires : tie.Need-owing-requires
-owing-requires c κs = let k = c .before in call-settles (start (k .before .before) .pre) (made k) .room
+owing-requires c κs = let k = c .before in call-settles (start (k .before .before) .pre .calls) (made k) .room
 
 returns : tie.Need-returns
 returns c =
     let h = c .before in
     let k = h .before in
-    rw (c .owing .ensures) (record { answers = quiet-answers (start (k .before .before) .pre) (made k) refl (h .chosen .ensures); quiet' = refl })
+    rw (c .owing .ensures) (record { answers = quiet-answers (start (k .before .before) .pre .calls) (made k) refl (h .chosen .ensures); quiet' = refl })
 
 pub give-spec : {M : Type 1} → statement M
 give-spec =
@@ -265,6 +276,8 @@ give-spec =
     without-requires
     find-heir-requires
     wanted-requires
+    cast-ceiling
+    element-copy-out-ceiling
     push-requires
     without-requires-2
     placed-requires

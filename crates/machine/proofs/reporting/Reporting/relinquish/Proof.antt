@@ -2,9 +2,10 @@
 use mathlib.Core.Path.{_≡_, refl, ap, sym, _∙_}
 use mathlib.Core.Logic.{⊎-elim}
 use mathlib.Core.Bool.{Bool, true, false}
-use mathlib.Core.List.{List, [], _∷_, _++_}
+use mathlib.Core.List.{[], _∷_, _++_}
 use Prim.Native.Nat.{ℕ, _<_}
 use native.Mathlib.Omega.{arith}
+use lib.Dec.{T}
 use lib.ListN.{length}
 use Rattle.model.specs.Plan.{Plan}
 use Rattle.model.specs.Records as records
@@ -13,11 +14,11 @@ use Rattle.model.specs.State.{State, leaveQueue, joinQueue, owe}
 use Rattle.model.specs.Calls.{rivalled, relinquish}
 use Rattle.lists.specs.Words.{entryOf}
 use Rattle.machine.specs.declared.Machine.{Machine}
-use Rattle.lists.specs.Lists.{queued, held}
+use Rattle.lists.specs.Lists.{threadOf, queued}
 use Rattle.lists.specs.Choice.{rivalledIn}
 use Rattle.machine.specs.View.{planOf, idle, reportsIn}
 use Rattle.machine.specs.Rules.{runRule}
-use Rattle.machine.specs.Contracts.{Ceilings}
+use Rattle.machine.specs.Kept.{kept}
 use Rattle.machine.proofs.Admitted.{Asked, Runs, Makes, admits, refuses, by}
 use Rattle.machine.proofs.Asking.{relinquish-rule, relinquishes}
 use Rattle.machine.proofs.Facts.{facts}
@@ -45,14 +46,12 @@ module _ {m : Machine} {x : ℕ} (a : Asked m x 0) where
   admitted e z = relinquishes a (sym (relinquish-rule a) ∙ sym e ∙ z)
 
   -- the code's test is the model's
-  tested : (ceilings : List ℕ) → Ceilings m ceilings → (r v : Bool)
+  tested : T (kept m) → (r v : Bool)
       → x < m .plan .threads
-      → r ≡ rivalledIn (entryOf (m .plan .bases)) ceilings (queued (m .queue)) (held (m .holds)) (queued (m .waits)) x
+      → r ≡ rivalledIn (entryOf (m .plan .bases)) (threadOf (m .holds .top .owner)) (queued (m .queue)) (queued (m .waits)) x
       → r ≡ v
       → rivalled (planOf m) x (idle m) ≡ v
-  tested ceilings c r v h e k =
-      let f = facts (a .formed) in
-      sym (e ∙ rivalled-same (m .plan .bases) ceilings (listed f) x h ∙ rivalled-is m (f .valid) c [] x) ∙ k
+  tested t r v h e k = sym (e ∙ rivalled-same (m .plan .bases) (listed (facts (a .formed))) (threadOf (m .holds .top .owner)) x h ∙ rivalled-is m t [] x) ∙ k
 
 none-requires : tie.Need-none-requires
 none-requires c κs = tt
@@ -65,7 +64,8 @@ rivalled-of-requires c κs =
     let d = c .before in
     let k = d .before in
     let a = caller-asked (k .before .before .before .pre) in
-    (listed (facts (a .formed)) .counts, caller-fits (admitted a (k .run-rule .ensures) (d .if1 .taken)))
+    let n = listed (facts (a .formed)) .counts in
+    (n .queue', n .waits', caller-fits (admitted a (k .run-rule .ensures) (d .if1 .taken)))
 
 without-requires : tie.Need-without-requires
 without-requires c κs =
@@ -102,10 +102,11 @@ made c =
     ⊎-elim
     (λ w.
     let g = admitted a (k .run-rule .ensures) (w .0 .taken) in
-    let t = tested a (s .args .ceilings .now) (s .pre .asks .ceilings') (w .2 .result) true (caller-known g) (w .2 .ensures) (w .3 .taken) in
+    let t = tested a (s .pre .asks .stands .keeps) (w .2 .result) true (caller-known g) (w .2 .ensures) (w .3 .taken) in
     admits e (by g (relinquish (planOf m)) ∙ yields (planOf m) x (idle m) t) (w .0 .taken) (w .7) refl
     (record {
       plan' = refl;
+      keeps = s .pre .asks .stands .keeps;
       seen =
           alike refl refl
           (w .5 .ensures ∙ ap (λ l. l ++ (x ∷ [])) (w .4 .ensures))
@@ -116,10 +117,10 @@ made c =
     (⊎-elim
     (λ w.
     let g = admitted a (k .run-rule .ensures) (w .0 .taken) in
-    let t = tested a (s .args .ceilings .now) (s .pre .asks .ceilings') (w .2 .result) false (caller-known g) (w .2 .ensures) (w .3 .left) in
+    let t = tested a (s .pre .asks .stands .keeps) (w .2 .result) false (caller-known g) (w .2 .ensures) (w .3 .left) in
     admits e (by g (relinquish (planOf m)) ∙ stays (planOf m) x (idle m) t) (w .0 .taken) (w .4) refl
-    (record { plan' = refl; seen = alike refl refl refl refl refl refl refl (told (c .making .ensures) (w .5) none') refl }))
-    (λ w. refuses e (w .0 .left) (w .1) refl (told (c .making .ensures) (w .2) none')))
+    (record { plan' = refl; keeps = s .pre .asks .stands .keeps; seen = alike refl refl refl refl refl refl refl (told (c .making .ensures) (w .5) none') refl }))
+    (λ w. refuses e (s .pre .asks .stands .keeps) (w .0 .left) (w .1) refl (told (c .making .ensures) (w .2) none')))
     (j .if1 .came)
 
 chosen-requires : tie.Need-chosen-requires

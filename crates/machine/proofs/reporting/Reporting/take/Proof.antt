@@ -23,7 +23,8 @@ use Rattle.machine.proofs.Admitted.{Takes, Makes, admits, refuses, by}
 use Rattle.machine.proofs.Asking.{take-rule, takes}
 use Rattle.machine.proofs.Facts.{Facts, facts}
 use Rattle.machine.proofs.Room.{queue-once, caller-fits, take-room, waits-room}
-use Rattle.machine.proofs.Chosen.{listed, above-is}
+use Rattle.machine.proofs.Keeping.{keeps-gained}
+use Rattle.machine.proofs.Chosen.{listed, ceiling-in, above-is}
 use Rattle.machine.proofs.Views.{waits-seen}
 use Rattle.machine.proofs.Meets.{alike, told}
 use Rattle.machine.proofs.Outcomes.{take-asked, call-settles, quiet-answers}
@@ -52,12 +53,12 @@ none-requires : tie.Need-none-requires
 none-requires c κs = tt
 
 section-fits : (s : tie.Start) → s .args .section < 16
-section-fits s = let a = take-asked (s .pre) in omega (arith, a .known, facts (a .asked .formed) .fits .sections)
+section-fits s = let a = take-asked (s .pre .calls) in omega (arith, a .known, facts (a .asked .formed) .fits .sections)
 
 take-rule-requires : tie.Need-take-rule-requires
 take-rule-requires c κs =
     let s = c .before .before .before .before in
-    let f = facts (take-asked (s .pre) .asked .formed) in
+    let f = facts (take-asked (s .pre .calls) .asked .formed) in
     (f .fits .threads, listed f .counts .holds', section-fits s)
 
 abbrev start : tie.After-take-rule → tie.Start
@@ -65,11 +66,11 @@ start c = c .before .before .before .before .before
 
 -- what is known of the machine that came
 known : (s : tie.Start) → Facts (s .args .self .machine)
-known s = facts (take-asked (s .pre) .asked .formed)
+known s = facts (take-asked (s .pre .calls) .asked .formed)
 
 -- where no rule is broken, what the rules of Take say holds
 granted : (c : tie.Then1) → (let s = start (c .before) in Takes (s .args .self .machine) (s .args .self .machine .reported) (s .args .section))
-granted c = let a = take-asked (start (c .before) .pre) in takes a (sym (take-rule a) ∙ sym (c .before .take-rule .ensures) ∙ c .if1 .taken)
+granted c = let a = take-asked (start (c .before) .pre .calls) in takes a (sym (take-rule a) ∙ sym (c .before .take-rule .ensures) ∙ c .if1 .taken)
 
 base-requires : tie.Need-base-requires
 base-requires c κs = known (start (c .before)) .fits .threads
@@ -77,9 +78,12 @@ base-requires c κs = known (start (c .before)) .fits .threads
 clear-requires : tie.Need-clear-requires
 clear-requires c κs = listed (known (start (c .before .before))) .counts .holds'
 
+element-copy-out-ceiling : tie.Need-element-copy-out-ceiling
+element-copy-out-ceiling c = section-fits (start (c .before .before .before .before))
+
 push-requires : tie.Need-push-requires
 push-requires c κs =
-    let k = c .before in
+    let k = c .before .before in
     let b = k .before in
     let s = start (b .before .before) in
     let m = s .args .self .machine in
@@ -87,7 +91,7 @@ push-requires c κs =
     let g = granted (b .before) in (
       take-room g
           (from-true (aboveAll (planOf m) x (heldByOthers x (held (m .holds))))
-          (tested m (s .args .ceilings .now) (known s) (s .pre .asks .ceilings') x (b .base .result) (k .clear .result) true (b .base .ensures) (k .clear .ensures) (c .if2 .taken))),
+          (tested m (s .args .ceilings .now) (known s) (s .pre .ceilings') x (b .base .result) (k .clear .result) true (b .base .ensures) (k .clear .ensures) (c .before .if2 .taken))),
       section-fits s,
       caller-fits (g .runs),
     )
@@ -120,24 +124,26 @@ made c =
     let m = s .args .self .machine in
     let x = s .args .self .machine .reported in
     let n = s .args .section in
-    let a = take-asked (s .pre) in
+    let a = take-asked (s .pre .calls) in
     let e = r .take-rule .ensures ∙ take-rule a in
-    let above = tested m (s .args .ceilings .now) (known s) (s .pre .asks .ceilings') x in
+    let above = tested m (s .args .ceilings .now) (known s) (s .pre .ceilings') x in
     ⊎-elim
     (λ w.
-    admits e (by (takes a (sym e ∙ w .0 .taken) .runs) (λ y. take (planOf m) y n)) (w .0 .taken) (w .6) refl
+    admits e (by (takes a (sym e ∙ w .0 .taken) .runs) (λ y. take (planOf m) y n)) (w .0 .taken) (w .7) refl
     (record {
       plan' = refl;
+      keeps = keeps-gained (planOf m) (m .holds) (w .5 .result) n x (s .pre .calls .asks .stands .keeps) (ceiling-in m (known s .valid) (s .pre .ceilings') n) (w .5 .ensures .0) (w .5 .ensures .1);
       seen =
           won-seen (planOf m) x n (idle m)
           (above (w .1 .result) (w .2 .result) true (w .1 .ensures) (w .2 .ensures) (w .3 .taken))
-          (alike refl refl refl (w .4 .ensures) refl refl refl (told (c .making .ensures) (w .7) (w .5 .ensures)) refl);
+          (alike refl refl refl (w .5 .ensures .0) refl refl refl (told (c .making .ensures) (w .8) (w .6 .ensures)) refl);
     }))
     (⊎-elim
     (λ w.
     admits e (by (takes a (sym e ∙ w .0 .taken) .runs) (λ y. take (planOf m) y n)) (w .0 .taken) (w .8) refl
     (record {
       plan' = refl;
+      keeps = s .pre .calls .asks .stands .keeps;
       seen =
           lost-seen (planOf m) x n (idle m)
           (above (w .1 .result) (w .2 .result) false (w .1 .ensures) (w .2 .ensures) (w .3 .left))
@@ -150,20 +156,20 @@ made c =
           (told (c .making .ensures) (w .9) (w .7 .ensures))
           refl);
     }))
-    (λ w. refuses e (w .0 .left) (w .1) refl (told (c .making .ensures) (w .2) (r .before .before .before .none .ensures))))
+    (λ w. refuses e (s .pre .calls .asks .stands .keeps) (w .0 .left) (w .1) refl (told (c .making .ensures) (w .2) (r .before .before .before .none .ensures))))
     (j .if1 .came)
 
 chosen-requires : tie.Need-chosen-requires
-chosen-requires c κs = call-settles (start (c .before .before) .pre) (made c) .chooses
+chosen-requires c κs = call-settles (start (c .before .before) .pre .calls) (made c) .chooses
 
 owing-requires : tie.Need-owing-requires
-owing-requires c κs = let k = c .before in call-settles (start (k .before .before) .pre) (made k) .room
+owing-requires c κs = let k = c .before in call-settles (start (k .before .before) .pre .calls) (made k) .room
 
 returns : tie.Need-returns
 returns c =
     let h = c .before in
     let k = h .before in
-    rw (c .owing .ensures) (record { answers = quiet-answers (start (k .before .before) .pre) (made k) refl (h .chosen .ensures); quiet' = refl })
+    rw (c .owing .ensures) (record { answers = quiet-answers (start (k .before .before) .pre .calls) (made k) refl (h .chosen .ensures); quiet' = refl })
 
 pub take-spec : {M : Type 1} → statement M
 take-spec =
@@ -173,6 +179,7 @@ take-spec =
     take-rule-requires
     base-requires
     clear-requires
+    element-copy-out-ceiling
     push-requires
     one-requires
     without-requires

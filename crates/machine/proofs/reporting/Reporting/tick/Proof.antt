@@ -146,7 +146,7 @@ made c =
     refl
     (due c ∙ ap (λ k. withoutSwitch (shown s .due) ++ (map Expire (expired k (shown s .due) (idle m .timers)) ++ map Ready (sleepers k (idle m)))) z)
     (c .moved-on .ensures ∙ ap (λ k. moveOn k (idle m .timers)) z) in
-    record { plan' = refl; rule' = tick-rule (tick-asked (came w .pre)) (shown s .due); made = λ q. seen; kept = λ d. absurd (d refl) }
+    record { plan' = refl; rule' = tick-rule (tick-asked (came w .pre)) (shown s .due); made = λ q. seen; stays = λ d. absurd (d refl); keeps = came w .pre .asks .stands .keeps }
 
 chosen-requires : tie.Need-chosen-requires
 chosen-requires c κs = let l = c .before .before .before .before .before in tick-settles (came (woke l) .pre) (made l) .chooses

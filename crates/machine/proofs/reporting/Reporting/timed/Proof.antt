@@ -24,7 +24,7 @@ returns : tie.Need-returns
 returns c =
     let k = c .before in
     let a = k .before .before .args in
-    λ t q. rw (c .owing .ensures) (timer-answers (q .sets) (sets (a .self .machine) t (a .timers) (reportsIn (k .making .result)) (q .rule') (q .timers') (k .making .ensures .stored _ (q .made'))))
+    λ t q. rw (c .owing .ensures) (timer-answers (q .sets) (sets (a .self .machine) (q .sets .asks .stands .keeps) t (a .timers) (reportsIn (k .making .result)) (q .rule') (q .timers') (k .making .ensures .stored _ (q .made'))))
 
 pub timed-spec : {M : Type 1} → statement M
 timed-spec = tie.close (tie.spec making-requires owing-requires returns)

@@ -45,6 +45,7 @@ delivers : (s : State) (r : Report) (n : ℕ) {m : Machine} → m ≡ told (s .m
 delivers s r n e q =
     record {
       plan' = ap (λ (m : Machine). m .plan) e;
+      holds' = ap (λ (m : Machine). m .holds) e;
       seen = ap (λ m. viewed m (drop (s .given + 1) (owed (s .due)))) e ∙ alike refl refl refl refl refl refl q (drop-next (s .given) (owed (s .due))) refl;
     }
 

@@ -14,7 +14,7 @@ none-requires c κs = search needs
 returns : tie.Need-returns
 returns c =
     let m = c .before .start in
-    record { plan' = m .ensures .plan'; seen = ap (viewed (m .result)) (c .none .ensures) ∙ m .ensures .seen }
+    record { plan' = m .ensures .plan'; seen = ap (viewed (m .result)) (c .none .ensures) ∙ m .ensures .seen; keeps = m .ensures .keeps }
 
 pub fresh-spec : {M : Type 1} → statement M
 fresh-spec = tie.close (tie.spec start-requires none-requires returns)

@@ -1,22 +1,22 @@
--- `Holds::owner` meets its contract: the owner among the holds passed, put before those that are left, gives the owner of all.
+-- `Holds::walk` meets its contract: the owner among the holds passed, put before those that are left, gives the owner of all.
 use mathlib.Core.Path.{refl}
 use mathlib.Core.Logic.{inl, inr, ⊎-elim}
 use native.Mathlib.Omega.{arith}
 use borrow.Author.Needs.{needs}
 use borrow.Author.Tests.{ltb-true, ltb-false}
 use Rattle.lists.specs.Lists.{heldIn, held, ceilingIn}
-use Rattle.lists.proofs.Holdings.{OwnerLeft, owner-new, owner-stays, owner-found}
-use Rattle.lists.proofs.holds.Holds.owner.Statement.{statement}
-use Rattle.lists.proofs.holds.Holds.owner.Tie as tie
+use Rattle.lists.proofs.Holdings.{TopLeft, top-new, top-stays, top-found}
+use Rattle.lists.proofs.holds.Holds.walk.Statement.{statement}
+use Rattle.lists.proofs.holds.Holds.walk.Tie as tie
 
 abbrev Inv-loop : tie.InvT-loop
-Inv-loop ceilings all ss₀ ts₀ left₀ who₀ top₀ ss ts left who top = OwnerLeft (ceilingIn all) (heldIn left₀ ss₀ ts₀) left ss ts who top
+Inv-loop ceilings all ss₀ ts₀ left₀ owner₀ top₀ ss ts left owner top = TopLeft (ceilingIn all) (heldIn left₀ ss₀ ts₀) left ss ts owner top
 
 abbrev μ-loop : tie.MeasureT-loop
-μ-loop ceilings all ss₀ ts₀ left₀ who₀ top₀ ss ts left who top = left
+μ-loop ceilings all ss₀ ts₀ left₀ owner₀ top₀ ss ts left owner top = left
 
 loop-holds : tie.Need-loop-holds Inv-loop μ-loop
-loop-holds c = inl (refl, refl)
+loop-holds c = inl (refl, refl, refl)
 
 cast-t : tie.Need-cast-t Inv-loop μ-loop
 cast-t c = search needs
@@ -35,7 +35,7 @@ loop-again c =
     let k = c .before .before in
     let a = k .before .before .args in
     let l = k .loop in
-    owner-new (ceilingIn (a .ceilings .now)) (held (a .self)) (l .left) (l .ss) (l .ts) (l .who) (l .top) (omega arith) (l .inv)
+    top-new (ceilingIn (a .ceilings .now)) (held (a .self)) (l .left) (l .ss) (l .ts) (l .owner) (l .top) (omega arith) (l .inv)
     (⊎-elim (λ w. inl (w .taken)) (λ w. inr (ltb-true _ _ (w .1 .taken))) (c .if1 .came))
 
 loop-less-2 : tie.Need-loop-less-2 Inv-loop μ-loop
@@ -46,17 +46,17 @@ loop-again-2 c =
     let k = c .before .before .before in
     let a = k .before .before .args in
     let l = k .loop in
-    owner-stays (ceilingIn (a .ceilings .now)) (held (a .self)) (l .left) (l .ss) (l .ts) (l .who) (l .top) (omega arith) (l .inv) (c .before .if1 .left) (ltb-false _ _ (c .if2 .left))
+    top-stays (ceilingIn (a .ceilings .now)) (held (a .self)) (l .left) (l .ss) (l .ts) (l .owner) (l .top) (omega arith) (l .inv) (c .before .if1 .left) (ltb-false _ _ (c .if2 .left))
 
 returns : tie.Need-returns Inv-loop μ-loop
 returns c =
     let k = c .before in
     let a = k .before .before .args in
     let l = k .loop in
-    owner-found (ceilingIn (a .ceilings .now)) (held (a .self)) (l .left) (l .ss) (l .ts) (l .who) (l .top) (omega arith) (l .inv)
+    top-found (ceilingIn (a .ceilings .now)) (held (a .self)) (l .left) (l .ss) (l .ts) (l .owner) (l .top) (omega arith) (l .inv)
 
-pub owner-spec : {M : Type 1} → statement M
-owner-spec =
+pub walk-spec : {M : Type 1} → statement M
+walk-spec =
     tie.close
     (tie.spec
     Inv-loop
