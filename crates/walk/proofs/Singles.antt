@@ -33,6 +33,7 @@ single-walks {s} {bytes = bytes} {i = i} a =
     record {
       valid = formed-facts s (a .formed') .standing .valid;
       ceilings' = a .ceilings';
+      keeps = a .keeps;
       whole = a .whole;
       within = omega (arith, a .within);
       operands = λ j l h. let z : i ≡ j = omega arith in subst (λ k. T (operandFits (s .machine .plan .threads) (s .machine .plan .sections) (kindAt bytes k) (operandAt bytes k))) z (a .operand');
@@ -98,7 +99,7 @@ module _ {r : Walked} {s : State} (bytes : List ℕ) (i : ℕ) (e : WalkEnds r s
 
   -- what a step of the model answers
   pub single-answers : Advances (r .state) (r .rule) s x
-  single-answers = record { outcome = go (equal? (r .rule) 0); plan' = e .plan'; kept = λ d. walk-broke d .1 }
+  single-answers = record { outcome = go (equal? (r .rule) 0); plan' = e .plan'; stays = λ d. walk-broke d .1; keeps = e .keeps }
     where
       go : (r .rule ≡ 0) ⊎ (r .rule ≢ 0) → cond (eqb (r .rule) 0) (moved (view (r .state))) (broke (r .rule)) ≡ step p (view s) x
       go (inl z) = rw (eq-eqb (r .rule) 0 z) (sym (walk-moved z))

@@ -23,8 +23,9 @@ use Rattle.machine.specs.declared.Machine.{Machine}
 use Rattle.machine.specs.declared.state.State.{State}
 use Rattle.machine.specs.declared.reporting.Reporting.{Reporting}
 use Rattle.machine.specs.View.{planOf, view, shown}
-use Rattle.machine.specs.Contracts.{opened}
-use Rattle.machine.specs.Calls.{Stands, Asks, Calls, Sets, Answers, Closes}
+use Rattle.machine.specs.Kept.{kept}
+use Rattle.machine.specs.Contracts.{Ceilings, opened}
+use Rattle.machine.specs.Calls.{Stands, Asks, Answers, Closes}
 use Rattle.machine.proofs.Laws.{ceilings-of, opened-shown, opened-stands, answers-moved, answers-broke}
 use Rattle.dump.specs.Layout.{recordCount, kindAt, operandAt, recordOf, recordAt, part, kindOf}
 use Rattle.dump.specs.Questions.{operandFits}
@@ -85,12 +86,6 @@ not-heard kind given due b e = let r = go (eqb kind 7) (ltb given due) b e in (�
     go false false true e = (λ z. refl, tt)
     go false false false e = absurd (true≢false e)
 
--- a call that sets timers asks for the ceilings of its plan
-pub plan-ceilings : {c : Reporting} {ceilings : List ℕ} {k : records.TimerCall} → Calls c ceilings (records.Timing k) → Sets c k
-plan-ceilings a =
-    let q = a .asks in
-    record { asks = record { formed' = q .formed'; stands = q .stands; ceilings' = refl; allowed' = q .allowed'; tick' = q .tick' }; undue = a .undue; ordered = a .ordered }
-
 -- record i, by its two numbers
 pub walk-record : (bytes : List ℕ) (i : ℕ) {kind operand : ℕ} → (kind ≡ kindAt bytes i) × (operand ≡ operandAt bytes i) → recordOf kind operand ≡ recordAt bytes i
 walk-record bytes i o = rw (o .0, o .1)
@@ -113,7 +108,7 @@ module _ {first : State} {ceilings : List ℕ} {bytes : List ℕ} {from to : ℕ
       (record {
         plan' = refl;
         leads = ap (finish (planOf (first .machine)) from (part bytes from to)) (opened-shown first);
-        stands = opened-stands first;
+        stands = opened-stands first (a .keeps);
         onward' = omega arith;
         kept = λ z. opened-shown first;
         safe = go (a .safe);
@@ -131,24 +126,29 @@ module _ {first : State} {ceilings : List ℕ} {bytes : List ℕ} {from to : ℕ
     same-plan = ap plans.view (w .plan')
 
     -- where the walk ends, with its verdict: here, or at the record that breaks a rule
-    ended : {after : Reporting} {s : State} {at : ℕ} → after .machine .plan ≡ first .machine .plan → Closes s after
+    ended : {after : Reporting} {s : State} {at : ℕ} → after .machine .plan ≡ first .machine .plan → Stands after → Closes s after
         → (cond (eqb (after .rule) 0) (clean at (length (shown after .due))) (breach at (after .rule)), shown after) ≡ finish (planOf (first .machine)) from (part bytes from to) (view first)
         → WalkEnds (record { state = s; at = at; rule = after .rule }) first bytes from to
-    ended {after} {s} {at} q k z =
+    ended {after} {s} {at} q t k z =
         record {
           plan' = ap (λ (m : Machine). m .plan) (k .machine') ∙ q;
           verdict = ap (λ (x : state.State). cond (eqb (after .rule) 0) (clean at (length (x .due))) (breach at (after .rule))) (k .seen) ∙ ap (λ f. f .0) z;
           state' = k .seen ∙ ap (λ f. f .1) z;
+          keeps = subst (λ (m : Machine). T (kept m)) (sym (k .machine')) (t .keeps);
         }
 
     -- behind the last record
     pub walk-ends : c .rule ≡ 0 → to ≤ i → {s : State} → Closes s c → WalkEnds (record { state = s; at = i; rule = c .rule }) first bytes from to
     walk-ends e h k =
-        ended (w .plan') k
+        ended (w .plan') (w .stands) k
         (ap (λ b. (cond b (clean i (length (shown c .due))) (breach i (c .rule)), shown c)) (eq-eqb (c .rule) 0 e)
         ∙ sym (finish-ended (planOf (c .machine)) i (shown c))
         ∙ sym (done (λ l. finish (planOf (c .machine)) i (map (recordAt bytes) l) (shown c)) to i h)
         ∙ w .leads)
+
+    -- the ceilings are still those of its plan
+    pub walk-ceilings : Ceilings (c .machine) ceilings
+    walk-ceilings = ceilings-of (c .machine) (first .machine .plan) ceilings (w .plan') (a .ceilings')
 
     -- at record i
     module _ (h : i < to) where
@@ -193,12 +193,11 @@ module _ {first : State} {ceilings : List ℕ} {bytes : List ℕ} {from to : ℕ
           rw (o .0, o .1) (wider (c .machine .plan .threads) (c .machine .plan .sections) 16 16 (kindAt bytes i) (operandAt bytes i) (f .threads) (f .sections) fits)
 
       -- and the machine may be asked about it
-      pub walk-asks : Asks c ceilings (recordAt bytes i)
+      pub walk-asks : Asks c (recordAt bytes i)
       walk-asks =
           record {
             formed' = formed-here;
             stands = w .stands;
-            ceilings' = ceilings-of (c .machine) (first .machine .plan) ceilings (w .plan') (a .ceilings');
             allowed' = allowed;
             tick' = λ t. room-here (sym (kind-back (kindAt bytes i) (operandAt bytes i) (fits-kind _ _ (kindAt bytes i) (operandAt bytes i) fits)) ∙ ap kindOf t);
           }
@@ -210,9 +209,9 @@ module _ {first : State} {ceilings : List ℕ} {bytes : List ℕ} {from to : ℕ
         -- the record breaks a rule
         pub walk-breaks : after .rule ≢ 0 → {s : State} → Closes s after → WalkEnds (record { state = s; at = i; rule = after .rule }) first bytes from to
         walk-breaks d k =
-            ended (b .plan' ∙ w .plan') k
+            ended (b .plan' ∙ w .plan') (b .stands') k
             (ap (λ x. (cond x (clean i (length (shown after .due))) (breach i (after .rule)), shown after)) (ne-eqb (after .rule) 0 d)
-            ∙ ap (λ (st : state.State). (breach i (after .rule), st)) (b .kept d)
+            ∙ ap (λ (st : state.State). (breach i (after .rule), st)) (b .stays d)
             ∙ sym (finish-broke (planOf (c .machine)) i (recordAt bytes i) (map (recordAt bytes) (left (i + 1) to)) (shown c) (after .rule) (answers-broke b d)) ∙ turned)
 
         -- the record moves the machine

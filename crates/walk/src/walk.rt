@@ -39,13 +39,13 @@ pub fn walk(
             c = c.passed();
         } else {
             match record_of(e) {
-                Record::Create(t) => c = c.create(ceilings, t),
-                Record::Delay(w) => c = c.delay(ceilings, w),
-                Record::Relinquish => c = c.relinquish(ceilings),
-                Record::End => c = c.end(ceilings),
+                Record::Create(t) => c = c.create(t),
+                Record::Delay(w) => c = c.delay(w),
+                Record::Relinquish => c = c.relinquish(),
+                Record::End => c = c.end(),
                 Record::Take(n) => c = c.take(ceilings, n),
                 Record::Give(n) => c = c.give(ceilings, n),
-                Record::Tick => c = c.tick(ceilings),
+                Record::Tick => c = c.tick(),
                 Record::Arm(t) => c = c.arm(t),
                 Record::Start(n) => c = c.start(n),
                 Record::Period(n) => c = c.period(n),

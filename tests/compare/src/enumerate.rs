@@ -55,9 +55,14 @@ pub fn beginnings() -> Vec<Small> {
             .behind("Create 0; Ready 0; Switch 0; Take 0; Won 0; Take 1; Won 0; Create 1; Ready 1; Switch 1; Take 0; Lost 1; Switch 0"),
         small("2 threads, between a Take and its Won", plan(1, &[1, 2], &[1, 1]), [9, 11], [0, 0])
             .behind("Create 0; Ready 0; Switch 0; Create 1; Ready 1; Switch 1; Delay 1; Switch 0; Tick; Take 0"),
-        small("2 threads, behind a Take of the lower ceiling", plan(2, &[1, 2], &[3, 1]), [9, 11], [0, 0])
-            .with_moves(&[OVER, UNDER, LEFT, LOWERED, SAME, EMPTIED])
-            .behind("Create 0; Ready 0; Switch 0; Take 1; Won 0; Create 1; Ready 1; Switch 1"),
+        small(
+            "2 threads, behind a Take of the lower ceiling",
+            plan(2, &[1, 2], &[3, 1]),
+            [8, 10],
+            [0, 0],
+        )
+        .with_moves(&[OVER, UNDER, LEFT, LOWERED, SAME, EMPTIED])
+        .behind("Create 0; Ready 0; Switch 0; Take 1; Won 0; Create 1; Ready 1; Switch 1"),
         small("1 thread, behind two armings", unshared, [7, 9], [0, 0])
             .with_timers(2)
             .behind("Create 0; Ready 0; Switch 0; Arm 0; Start 1; Period 1; Late 0; Arm 1; Start 2; Period 2; Late 0"),

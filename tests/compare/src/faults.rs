@@ -7,10 +7,10 @@ use crate::enumerate::{beginnings, plans, Walk};
 use crate::family::Trial;
 use crate::random::Random;
 use crate::shrink::shrunk;
-use crate::{broken, dumps, known, lent, lists};
+use crate::{broken, dumps, holders, known, lent, lists};
 
 /// The random families that a mistake is put to, and how many inputs of each.
-const TRIALS: [(&str, Trial, u64); 9] = [
+const TRIALS: [(&str, Trial, u64); 10] = [
     ("honest", dumps::honest, 1200),
     ("cut short", dumps::cut, 300),
     ("damaged in a record", dumps::damaged_record, 600),
@@ -19,6 +19,7 @@ const TRIALS: [(&str, Trial, u64); 9] = [
     ("bench output", lists::output, 200),
     ("lent, reached", lent::reached, 600),
     ("lent, well-formed", lent::well_formed, 4000),
+    ("lent, holds moved", holders::moved, 1000),
     ("lent, broken", broken::in_some_way, 1000),
 ];
 

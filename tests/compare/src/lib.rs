@@ -12,6 +12,7 @@ pub mod entries;
 pub mod enumerate;
 pub mod family;
 pub mod faults;
+pub mod holders;
 pub mod known;
 pub mod lent;
 pub mod lists;

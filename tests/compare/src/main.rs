@@ -7,11 +7,11 @@ use compare::answer::{breaches, refusals, Answer};
 use compare::calls::Calls;
 use compare::enumerate::{beginnings, covered, plans, Walk};
 use compare::family::{Family, Trial};
-use compare::moves::{FROM_THE_START, LENT};
+use compare::moves::{FROM_THE_START, LENT, OFTEN};
 use compare::promise::CleanLists;
 use compare::random::Random;
 use compare::ticks::{AGAIN, AMONG, FULL, GONE, OTHER, OWED, TOGETHER, WOKEN};
-use compare::{broken, dumps, faults, known, lent, lists, promise, state};
+use compare::{broken, dumps, faults, holders, known, lent, lists, promise, state};
 use second::Fault;
 
 const SEED: u64 = 1;
@@ -189,16 +189,17 @@ fn bench_lists(tally: &mut Tally, inputs: u64) {
 }
 
 fn lent_states(tally: &mut Tally, scale: &Scale) {
-    let shown = [INTERRUPTS.to_vec(), FROM_THE_START.to_vec()].concat();
-    let wanted = [CLEAN.to_vec(), breaches(21, 32), refusals(&[7, 8]), shown].concat();
+    let wanted = [CLEAN.to_vec(), breaches(21, 32), refusals(&[7, 8]), INTERRUPTS.to_vec()].concat();
     tally.random("lent, reached", lent::reached, scale.lent / 4, &wanted);
-    let of_any_state = [vec![lent::CUT, lent::APART, FULL], TOGETHER.to_vec(), LENT.to_vec()].concat();
+    let of_any_state = [vec![lent::CUT, lent::APART, FULL], TOGETHER.to_vec(), OFTEN.to_vec()].concat();
     tally.random(
         "lent, well-formed",
         lent::well_formed,
         scale.lent,
         &[wanted, refusals(&[12, 13]), of_any_state].concat(),
     );
+    let moves = [&CLEAN[..], &FROM_THE_START, &LENT].concat();
+    tally.random("lent, holds moved", holders::moved, scale.lent / 4, &moves);
     for (name, break_it) in broken::WAYS {
         let mut family = Family::new(&format!("lent, broken: {name}"));
         let mut random = tally.numbers_for(name);

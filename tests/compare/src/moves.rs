@@ -14,6 +14,9 @@ pub const FROM_THE_START: [Answer; 9] = [OVER, UNDER, LOST, LEFT, LOWERED, SAME,
 /// What only lent states have, the last three of them before any step.
 pub const LENT: [Answer; 6] = [NOT_LATEST, HEIR_UNDER, HEIR_TIE, TIE, ZERO, NOTHING];
 
+/// What lent states show even where few of their steps are Takes and Gives of the running thread.
+pub const OFTEN: [Answer; 8] = [TIE, ZERO, NOTHING, NOT_LATEST, LOST, LEFT, EMPTIED, HEIR];
+
 /// A won Take.
 pub const OVER: Answer = Answer::Showed("a Take that makes another thread the owner");
 pub const UNDER: Answer = Answer::Showed("a won Take of a lower ceiling than the greatest");

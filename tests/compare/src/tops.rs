@@ -30,7 +30,9 @@ pub fn ceiling(parts: &Parts, section: u16) -> u8 {
 /// The ceiling and the thread of each hold, those of greatest ceiling first, and of equal ones the latest taken.
 pub fn greatest_first(parts: &Parts) -> Vec<(u8, usize)> {
     let latest_first = parts.holds.iter().rev();
-    let mut held: Vec<(u8, usize)> = latest_first.map(|(section, thread)| (ceiling(parts, *section), (*thread).into())).collect();
+    let mut held: Vec<(u8, usize)> = latest_first
+        .map(|(section, thread)| (ceiling(parts, *section), (*thread).into()))
+        .collect();
     // A stable sort.
     held.sort_by_key(|(ceiling, _)| Reverse(*ceiling));
     held

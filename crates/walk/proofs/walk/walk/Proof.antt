@@ -17,13 +17,13 @@ use Rattle.due.specs.Lists.{reportOf}
 use Rattle.machine.specs.View.{view, shown}
 use Rattle.machine.specs.Records as machine
 use Rattle.machine.specs.Contracts.{passed}
-use Rattle.machine.specs.Calls.{Apart, Asks, Calls, Ticks, Answers, Called, inPlace, Closes}
+use Rattle.machine.specs.Calls.{Apart, Asks, Calls, Moves, Ticks, Answers, Called, inPlace, Closes}
 use Rattle.machine.proofs.Laws.{named-place, arming-known, heard-answers, unasked-answers, passed-answers}
 use Rattle.dump.specs.Layout.{recordCount, recordOf, recordAt, runningPlace}
 use Rattle.dump.specs.Questions.{operandFits}
 use Rattle.dump.proofs.Laws.{names, running-place, running-next}
 use Rattle.walk.specs.Contracts.{WalkEnds}
-use Rattle.walk.proofs.Walking.{heard-due, not-heard, plan-ceilings, Walking, as-came, as-opened, walk-begins, walk-ends, walk-within, walk-record, walk-reads, walk-asks, walk-breaks, walk-moves}
+use Rattle.walk.proofs.Walking.{heard-due, not-heard, Walking, as-came, as-opened, walk-begins, walk-ends, walk-within, walk-record, walk-reads, walk-ceilings, walk-asks, walk-breaks, walk-moves}
 use Rattle.walk.proofs.walk.walk.Statement.{statement}
 use Rattle.walk.proofs.walk.walk.Tie as tie
 
@@ -67,7 +67,7 @@ here e = e .before .before
 abbrev at : (e : tie.After-entry-at Inv-loop μ-loop) → records.Record
 at e = recordAt (start (here e) .args .bytes .now) (here e .loop .i)
 
-asks : (e : tie.After-entry-at Inv-loop μ-loop) → Asks (here e .loop .c) (start (here e) .args .ceilings .now) (at e)
+asks : (e : tie.After-entry-at Inv-loop μ-loop) → Asks (here e .loop .c) (at e)
 asks e = let l = here e in walk-asks (start l .pre .0) (standing l) (e .before .loop-test .taken)
 
 is-record : (e : tie.After-entry-at Inv-loop μ-loop) → (let r = e .entry-at .result in recordOf (r .kind) (r .operand) ≡ at e)
@@ -109,16 +109,20 @@ ordered t {k} q =
     eqb→eq (stage (st .timers .arming)) (callPlace k) (subst (λ r. T (inOrder (st .timers .arming) r)) q (unheard t .1))
 
 -- other than Tick it comes with nothing due
-calls : (t : tie.Else1 Inv-loop μ-loop) {k : records.Call} → isTick k ≡ false → at (t .before .before) ≡ call k → Calls (here (t .before .before) .loop .c) (start (here (t .before .before)) .args .ceilings .now) k
+calls : (t : tie.Else1 Inv-loop μ-loop) {k : records.Call} → isTick k ≡ false → at (t .before .before) ≡ call k → Calls (here (t .before .before) .loop .c) k
 calls t n q =
     let e = t .before .before in
-    record { asks = subst (λ r. Asks (here e .loop .c) (start (here e) .args .ceilings .now) r) q (asks e); undue = unheard t .0 (ap isTickRecord q ∙ n); ordered = ordered t q }
+    record { asks = subst (λ r. Asks (here e .loop .c) r) q (asks e); undue = unheard t .0 (ap isTickRecord q ∙ n); ordered = ordered t q }
+
+-- a call that may move a hold has the ceilings beside it
+with-ceilings : (t : tie.Else1 Inv-loop μ-loop) {k : records.Call} → (let l = here (t .before .before) in Calls (l .loop .c) k → Moves (l .loop .c) (start l .args .ceilings .now) k)
+with-ceilings t a = let l = here (t .before .before) in record { calls = a; ceilings' = walk-ceilings (start l .pre .0) (standing l) }
 
 -- a Tick, whatever is due
-ticks : (t : tie.Else1 Inv-loop μ-loop) → at (t .before .before) ≡ call records.Tick → Ticks (here (t .before .before) .loop .c) (start (here (t .before .before)) .args .ceilings .now)
+ticks : (t : tie.Else1 Inv-loop μ-loop) → at (t .before .before) ≡ call records.Tick → Ticks (here (t .before .before) .loop .c)
 ticks t q =
     let e = t .before .before in
-    record { asks = subst (λ r. Asks (here e .loop .c) (start (here e) .args .ceilings .now) r) q (asks e); ordered = ordered t q }
+    record { asks = subst (λ r. Asks (here e .loop .c) r) q (asks e); ordered = ordered t q }
 
 -- kind 7 is Tick
 is-tick : (t : tie.Then2 Inv-loop μ-loop) → at (t .before .before .before .before) ≡ call records.Tick
@@ -126,7 +130,7 @@ is-tick t =
     let e = t .before .before .before .before in
     sym (is-record e) ∙ ap (λ k. recordOf k (e .entry-at .result .operand)) (t .if2 .taken)
 
-ticks-by : (t : tie.Then2 Inv-loop μ-loop) → (let n = t .before .before .before .before in Ticks (here n .loop .c) (start (here n) .args .ceilings .now))
+ticks-by : (t : tie.Then2 Inv-loop μ-loop) → (let n = t .before .before .before .before in Ticks (here n .loop .c))
 ticks-by t = ticks (t .before .before) (is-tick t)
 
 is-quiet-requires : tie.Need-is-quiet-requires Inv-loop μ-loop
@@ -174,13 +178,13 @@ enum-known-n : tie.Need-enum-known-n Inv-loop μ-loop
 enum-known-n c = search needs
 
 take-requires : tie.Need-take-requires Inv-loop μ-loop
-take-requires c κs = let o = c .before .before .before in calls (undue-at o) refl (is-read o (ap machine.recordOf (c .before .n .given .1)))
+take-requires c κs = let o = c .before .before .before in with-ceilings (undue-at o) (calls (undue-at o) refl (is-read o (ap machine.recordOf (c .before .n .given .1))))
 
 enum-known-n-2 : tie.Need-enum-known-n-2 Inv-loop μ-loop
 enum-known-n-2 c = search needs
 
 give-requires : tie.Need-give-requires Inv-loop μ-loop
-give-requires c κs = let o = c .before .before .before in calls (undue-at o) refl (is-read o (ap machine.recordOf (c .before .n2 .given .1)))
+give-requires c κs = let o = c .before .before .before in with-ceilings (undue-at o) (calls (undue-at o) refl (is-read o (ap machine.recordOf (c .before .n2 .given .1))))
 
 enum-told-3 : tie.Need-enum-told-3 Inv-loop μ-loop
 enum-told-3 c = search needs
@@ -188,31 +192,29 @@ enum-told-3 c = search needs
 tick-requires : tie.Need-tick-requires Inv-loop μ-loop
 tick-requires c κs = let o = c .before .before in ticks (undue-at o) (is-read o (ap machine.recordOf (c .enum-told3 .given .1)))
 
--- the calls that set timers ask for the ceilings of their plan
-
 enum-known-t-2 : tie.Need-enum-known-t-2 Inv-loop μ-loop
 enum-known-t-2 c = search needs
 
 arm-requires : tie.Need-arm-requires Inv-loop μ-loop
-arm-requires c κs = let o = c .before .before .before in plan-ceilings (calls (undue-at o) refl (is-read o (ap machine.recordOf (c .before .t2 .given .1))))
+arm-requires c κs = let o = c .before .before .before in calls (undue-at o) refl (is-read o (ap machine.recordOf (c .before .t2 .given .1)))
 
 enum-known-n-3 : tie.Need-enum-known-n-3 Inv-loop μ-loop
 enum-known-n-3 c = search needs
 
 start-requires : tie.Need-start-requires Inv-loop μ-loop
-start-requires c κs = let o = c .before .before .before in plan-ceilings (calls (undue-at o) refl (is-read o (ap machine.recordOf (c .before .n3 .given .1))))
+start-requires c κs = let o = c .before .before .before in calls (undue-at o) refl (is-read o (ap machine.recordOf (c .before .n3 .given .1)))
 
 enum-known-n-4 : tie.Need-enum-known-n-4 Inv-loop μ-loop
 enum-known-n-4 c = search needs
 
 period-requires : tie.Need-period-requires Inv-loop μ-loop
-period-requires c κs = let o = c .before .before .before in plan-ceilings (calls (undue-at o) refl (is-read o (ap machine.recordOf (c .before .n4 .given .1))))
+period-requires c κs = let o = c .before .before .before in calls (undue-at o) refl (is-read o (ap machine.recordOf (c .before .n4 .given .1)))
 
 enum-known-t-3 : tie.Need-enum-known-t-3 Inv-loop μ-loop
 enum-known-t-3 c = search needs
 
 cancel-requires : tie.Need-cancel-requires Inv-loop μ-loop
-cancel-requires c κs = let o = c .before .before .before in plan-ceilings (calls (undue-at o) refl (is-read o (ap machine.recordOf (c .before .t3 .given .1))))
+cancel-requires c κs = let o = c .before .before .before in calls (undue-at o) refl (is-read o (ap machine.recordOf (c .before .t3 .given .1)))
 
 enum-told-4 : tie.Need-enum-told-4 Inv-loop μ-loop
 enum-told-4 c = search needs
@@ -243,7 +245,7 @@ answered j =
     let below = ltb (old .machine .tick .0 + 1) (old .quiet .0) in
     let q = from-true (undue && below) (sym (w .3 .ensures) ∙ w .4 .taken) in
     let k = ticks-by t in
-    let calm : Calls old (start (here e) .args .ceilings .now) records.Tick = record { asks = k .asks; undue = leb→le (old .due) (old .given) (and-left undue below q); ordered = k .ordered } in
+    let calm : Calls old records.Tick = record { asks = k .asks; undue = leb→le (old .due) (old .given) (and-left undue below q); ordered = k .ordered } in
     is (w .6 ∙ w .5 .ensures)
     (subst (λ y. Answers (passed old) old y) (sym (is-tick t)) (passed-answers calm (here e .loop .inv .0) (ltb→lt (old .machine .tick .0 + 1) (old .quiet .0) (and-right undue below q)))))
     (⊎-elim (λ w. made (record { before = record { before = record { before = record { before = o; if1 = w .0 }; struct-known = w .1 }; if2 = w .2 }; record-of = w .3 }) (ap machine.recordOf (w .5 .given .1)) (w .8) (w .7 .ensures))
