@@ -103,7 +103,7 @@ static void check_steps(const struct Run *run)
     memset(&watch, 0, sizeof watch);
     EXPECT(run->name, beltcairn_begin(run->plan, run->plan_len, &watch) == 0);
     for (size_t i = 0; i < run->at; i++) {
-        EXPECT(run->name, beltcairn_step(&watch, run->records[i].kind, run->records[i].operand, &due) == 0);
+        EXPECT(run->name, beltcairn_step(&watch, run->records[i].kind, run->records[i].operand, &due) == 0 && has_walked_top(&watch));
     }
     EXPECT(run->name, run->count == 0 || run->answer != 0 || due == run->due);
     if (run->answer != 0) {

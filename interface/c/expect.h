@@ -77,6 +77,9 @@ int owes_just(const struct beltcairn_state *state, const struct beltcairn_report
 /* Whether this is the owner kept, or nobody, and the greatest ceiling. */
 int has_top(const struct beltcairn_watch *watch, uint8_t owner, uint8_t ceiling);
 
+/* Whether they are those that a walk over the holds finds. */
+int has_walked_top(const struct beltcairn_watch *watch);
+
 /* 12 whatever the record, asked before 7; not a byte of the state changes, not even those that mean nothing. */
 void ill_formed(struct beltcairn_watch watch);
 

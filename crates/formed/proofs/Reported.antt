@@ -31,6 +31,7 @@ use Rattle.machine.specs.declared.Machine.{Machine}
 use Rattle.machine.specs.declared.state.State.{State}
 use Rattle.machine.specs.View as machines
 use Rattle.machine.specs.View.{planOf, viewed, idle}
+use Rattle.machine.specs.Kept.{kept, sound}
 use Rattle.machine.proofs.Laws.{machine-facts}
 use Rattle.formed.proofs.Outside.{second-asked, refused, decided, whatever-due}
 
@@ -162,23 +163,28 @@ module _ (m : Machine) (rs : Reports) (given : ℕ) (some-due : given < rs .coun
       (e
       ∙ ap₂ (λ d n. leb (length (withoutSwitch due') + d + times (owedNone (timing.view (m .timers)) due') (upTo timerCount) + 1) (n + 9)) (sym (length-queued (m .delays))) (sym (threads-view (m .plan))))
 
--- behind the machine what is due decides
+-- behind the machine and what it keeps, what is due decides
 module _ (s : State) where
   -- the answer that the code gives
-  abbrev IsFormed : Bool → Type 0
-  IsFormed r = r ≡ formed (planOf (s .machine)) (machines.view s)
+  abbrev IsSound : Bool → Type 0
+  IsSound r = r ≡ sound s
 
-  pub not-formed : false ≡ formedMachine (planOf (s .machine)) (idle (s .machine)) → IsFormed false
+  pub not-formed : false ≡ formedMachine (planOf (s .machine)) (idle (s .machine)) → IsSound false
   unfolding formed
-  not-formed e = ap (λ b. b && formedReports (planOf (s .machine)) (machines.view s)) (e ∙ sym (whatever-due (s .machine) (machines.view s .due)))
+  not-formed e = ap (λ b. b && formedReports (planOf (s .machine)) (machines.view s) && kept (s .machine)) (e ∙ sym (whatever-due (s .machine) (machines.view s .due)))
 
-  module _ (e : formedMachine (planOf (s .machine)) (idle (s .machine)) ≡ true) where
-    pub with-due : {r : Bool} → r ≡ formedReports (planOf (s .machine)) (machines.view s) → IsFormed r
+  pub not-kept : false ≡ kept (s .machine) → IsSound false
+  not-kept e = refused (λ t. and-right (formed (planOf (s .machine)) (machines.view s)) (kept (s .machine)) t) e
+
+  module _ (e : formedMachine (planOf (s .machine)) (idle (s .machine)) ≡ true) (k : kept (s .machine) ≡ true) where
+    pub with-due : {r : Bool} → r ≡ formedReports (planOf (s .machine)) (machines.view s) → IsSound r
     unfolding formed
-    with-due q = second-asked (formedMachine (planOf (s .machine)) (machines.view s)) _ (whatever-due (s .machine) (machines.view s .due) ∙ e) q
+    with-due q =
+        second-asked (formedMachine (planOf (s .machine)) (machines.view s)) _ (whatever-due (s .machine) (machines.view s .due) ∙ e) q
+        ∙ sym (ap (λ b. formed (planOf (s .machine)) (machines.view s) && b) k ∙ and-true (formed (planOf (s .machine)) (machines.view s)))
 
     -- with nothing due the thread reported does
-    pub at-rest : s .due .count ≤ s .given → {r : Bool} → r ≡ shownAtRest (planOf (s .machine)) (idle (s .machine)) → IsFormed r
+    pub at-rest : s .due .count ≤ s .given → {r : Bool} → r ≡ shownAtRest (planOf (s .machine)) (idle (s .machine)) → IsSound r
     unfolding formedReports
     at-rest h q = with-due (q ∙ at-once ∙ ap (λ l. formedReports (planOf (s .machine)) (viewed (s .machine) l)) (sym none))
       where

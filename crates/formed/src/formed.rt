@@ -2,17 +2,18 @@
 ghost use mathlib.Core.Path.{_≡_};
 ghost use mathlib.Core.Bool.{_&&_};
 ghost use lib.Dec.{T, leb};
-ghost use Rattle.model.specs.Formed.{numbersInRange, shownAtRest, formedMachine, formed};
-ghost use Rattle.machine.specs.View.{planOf, idle, view};
+ghost use Rattle.model.specs.Formed.{numbersInRange, shownAtRest, formedMachine};
+ghost use Rattle.machine.specs.View.{planOf, idle};
+ghost use Rattle.machine.specs.Kept.{kept, sound};
 ghost use Rattle.formed.specs.Contracts.{Counted, Stood};
 use crate::conditions;
+use crate::kept::keeps;
 use crate::reports;
 use crate::standing::stand_once;
 use crate::timers;
 use clock::time::LAST_TICK;
 use machine::Machine;
 use machine::state::State;
-use plan::ceilings::ceilings;
 use plan::questions::passes;
 
 // Whether every number is in range: the tick number, the threads and the sections. Asked where each thread stands where its condition says, so
@@ -82,25 +83,24 @@ fn machine_formed(m: Machine) -> bool
     m.holds.once(p.sections)
 }
 
-// Whether the chosen thread is the one last reported. The ceilings matter only where somebody waits.
+// Whether the chosen thread is the one last reported. The owner was asked for before.
 fn shown(m: Machine) -> bool
-    requires { ⌜ T (formedMachine (planOf m) (idle m)) ⌝ }
+    requires { ⌜ T (formedMachine (planOf m) (idle m)) × T (kept m) ⌝ }
     ensures { λ r. ⌜ r ≡ shownAtRest (planOf m) (idle m) ⌝ }
 {
-    let mut all = [0u8; 16];
-    if 0 < m.waits.count {
-        let p = m.plan;
-        all = ceilings(p);
-    }
-    m.chosen(&all) == m.reported
+    m.chosen() == m.reported
 }
 
-// Whether the answer is not 12: see model, Formed.formed. Rules out a test of the numbers alone, and one that reads past a count.
+// Whether the answer is not 12: see machine, Kept.sound. Rules out a test of the numbers alone, one that reads past a count, and one that believes what
+// is kept.
 pub fn formed(state: State) -> bool
-    ensures { λ r. ⌜ r ≡ formed (planOf (state .machine)) (view state) ⌝ }
+    ensures { λ r. ⌜ r ≡ sound state ⌝ }
 {
     let m = state.machine;
     if !machine_formed(m) {
+        return false;
+    }
+    if !keeps(m) {
         return false;
     }
     let due = state.due;

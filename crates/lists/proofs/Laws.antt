@@ -20,7 +20,7 @@ pub use Rattle.lists.proofs.Queues.{filter-kept, filter-dropped}
 -- a word has as many numbers that pass a test as are counted, at most
 pub use Rattle.lists.proofs.Queues.{times-within}
 -- numbers for threads, and back
-pub use Rattle.lists.proofs.Numbered.{numbered-threadOf, threadOf-numbered, number-is}
+pub use Rattle.lists.proofs.Numbered.{numbered-threadOf, threadOf-numbered, number-is, same-numbers}
 
 -- a list has as many entries as its count says
 

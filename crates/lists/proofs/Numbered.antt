@@ -25,6 +25,15 @@ threadOf-numbered (some t) h = let k = h t refl in rw (ne-eqb t 255 (λ e. omega
 
 -- numbers are equal where threads are the same
 
+pub same-numbers : (a b : ℕ) → same (threadOf a) (threadOf b) ≡ eqb a b
+same-numbers a b = go (equal? a 255) (equal? b 255)
+  where
+    go : (a ≡ 255) ⊎ (a ≢ 255) → (b ≡ 255) ⊎ (b ≢ 255) → same (threadOf a) (threadOf b) ≡ eqb a b
+    go (inl e) (inl f) = rw (e, f)
+    go (inl e) (inr d) = rw (e, ne-eqb b 255 d) (sym (ne-eqb 255 b (λ q. d (sym q))))
+    go (inr d) (inl f) = rw (f, ne-eqb a 255 d)
+    go (inr d) (inr g) = rw (ne-eqb a 255 d, ne-eqb b 255 g)
+
 pub number-is : (o : Option ℕ) (t : ℕ) → t ≢ 255 → eqb (numbered o) t ≡ same o (some t)
 number-is none t d = ne-eqb 255 t (λ e. d (sym e))
 number-is (some u) t d = refl

@@ -27,6 +27,8 @@ use Rattle.machine.proofs.Room.{delays-fit}
 -- which condition a number names, and that of a thread of the plan
 pub use Rattle.machine.proofs.Conditions.{at-none, by-state}
 pub use Rattle.machine.proofs.Views.{condition-at}
+-- read from the ceilings made once, the ceilings of holds are the model's
+pub use Rattle.machine.proofs.Chosen.{ceilings-are}
 -- a state opened to be moved on from stands for the same state of the model
 pub use Rattle.machine.proofs.Opening.{opened-shown, opened-stands}
 -- the place of a record by its kind; a record moves as in the model, or its rule is answered: what is answered of a record that is heard, of a report with

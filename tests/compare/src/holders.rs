@@ -1,6 +1,6 @@
 //! Lent states in which holds move: with nothing due the running thread takes and gives, and its reports are given at once.
 
-use second::{Fault, Parts, LAST_TICK};
+use second::{Fault, Parts, Reply};
 
 use crate::answer::Answer;
 use crate::bytes::Numbers;
@@ -10,15 +10,23 @@ use crate::moves;
 use crate::random::Random;
 use crate::sides::Pair;
 
-/// A few such steps on a well-formed state; none answers 12.
+/// A few such steps on a well-formed state, up to one that is not clean. Behind the first that may be a 12: an heir gets the section that it
+/// waits for though another thread holds it, if no ceiling bars the heir.
 pub fn moved(fault: Fault, random: &mut Random) -> Compared<Vec<Answer>> {
     let parts = quiet_parts(random);
     let mut pair = Pair::lent(fault, &parts, random);
     let mut answers = moves::lent(&parts);
-    for _ in 0..random.between(1, 12) {
+    for number in 0..random.between(1, 12) {
         let record = next_record(pair.parts(), random);
-        answers.push(pair.step_let_pass(record)?.into());
+        let reply = match number {
+            0 => pair.step_let_pass(record)?,
+            _ => pair.step(record)?,
+        };
+        answers.push(reply.into());
         answers.extend(pair.shown());
+        if !matches!(reply, Reply::Clean { .. }) {
+            break;
+        }
     }
     Ok(answers)
 }
@@ -32,7 +40,6 @@ fn quiet_parts(random: &mut Random) -> Parts {
             stored: 0,
             ..formed_parts(random)
         };
-        parts.tick = parts.tick.min(LAST_TICK - 1);
         parts.given = parts.chosen().expect("the state was made to pass");
         if !parts.line.is_empty() {
             return parts;
@@ -52,9 +59,14 @@ fn next_record(parts: &Parts, random: &mut Random) -> Numbers {
     }
 }
 
+/// The sections that the running thread needs and does not hold.
 fn needed(parts: &Parts) -> Vec<u16> {
     let Some(needs) = parts.needs.get(usize::from(parts.given)) else {
         return Vec::new();
     };
-    (0..parts.sections as u16).filter(|section| needs >> section & 1 == 1).collect()
+    let free = |section: &u16| !parts.holds.contains(&(*section, parts.given));
+    (0..parts.sections as u16)
+        .filter(|section| needs >> section & 1 == 1)
+        .filter(free)
+        .collect()
 }

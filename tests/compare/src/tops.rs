@@ -88,10 +88,10 @@ pub fn ceiling_of_another(parts: &mut Parts, random: &mut Random) -> bool {
     !held.is_empty() && cap(parts, random.pick(&held).0)
 }
 
-/// As if the hold of the owner were not there, or not yet.
+/// As if the holds of the owner were not there.
 pub fn both_of_another(parts: &mut Parts, random: &mut Random) -> bool {
     let mut others: Vec<Top> = greatest_first(parts).into_iter().map(|hold| top(hold.1, hold.0)).collect();
-    others.retain(|other| *other != parts.top);
+    others.retain(|other| other.owner != parts.top.owner && other.ceiling != parts.top.ceiling);
     if others.is_empty() {
         return false;
     }
@@ -104,7 +104,7 @@ pub fn nobody_owns(parts: &mut Parts, _: &mut Random) -> bool {
 }
 
 pub fn neither(parts: &mut Parts, random: &mut Random) -> bool {
-    nobody_owns(parts, random) && cap(parts, 0)
+    zero(parts, random) && own(parts, None)
 }
 
 pub fn one_more(parts: &mut Parts, _: &mut Random) -> bool {

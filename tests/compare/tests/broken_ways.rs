@@ -1,7 +1,9 @@
-//! Each way of breaking a lent state leaves what 12 asks of the reports due as it is, or breaks that and nothing else.
+//! Each way of breaking a lent state leaves what 12 asks of the reports due, and of the owner and the greatest ceiling, as it is, or breaks one
+//! of them and nothing else.
 
 use compare::broken::{broken_parts, WAYS};
 use compare::random::Random;
+use compare::tops::walked;
 use second::{Fault, Parts};
 
 /// States broken in the ways whose name has these words; there are some.
@@ -56,4 +58,31 @@ fn the_claims_are_often_at_their_limit() {
     let states: Vec<Parts> = (0..2000).map(|_| compare::lent::formed_parts(&mut random)).collect();
     let at_the_limit = states.iter().filter(|parts| parts.claims() == parts.threads + 9).count();
     assert!(at_the_limit > 400, "{at_the_limit}");
+}
+
+#[test]
+fn another_owner_or_ceiling_is_all_that_is_wrong() {
+    for parts in broken_so("owner").chain(broken_so("greatest ceiling")) {
+        let right = Parts {
+            top: walked(&parts),
+            ..parts
+        };
+        assert!(right.machine(Fault::None).is_some(), "{right:?}");
+    }
+}
+
+#[test]
+fn the_owner_and_the_greatest_ceiling_differ_where_the_name_says_so() {
+    let mut random = Random::new(1);
+    for (name, break_it) in WAYS {
+        let named = (name.starts_with("owner"), name.contains("greatest ceiling"));
+        for parts in (0..500).map(|_| broken_parts(break_it, &mut random)) {
+            let (lent, right) = (parts.top, walked(&parts));
+            assert_eq!(
+                (lent.owner != right.owner, lent.ceiling != right.ceiling),
+                named,
+                "{name}: {parts:?}"
+            );
+        }
+    }
 }

@@ -4,24 +4,28 @@ use std::collections::BTreeSet;
 use std::mem::{offset_of, size_of};
 
 use beltcairn::packed::numbers;
-use beltcairn::{Machine, Watch};
+use beltcairn::{Holds, Machine, Watch};
 use compare::random::Random;
 use compare::state::{lend, parts, REPORTS};
-use second::Parts;
+use second::{Parts, Top};
 
 /// Threads 2 and 0 in the line in this order, 6 and 1 asleep since Delays in this order, 3 dormant, 5 and 4 waiting in this order for
-/// sections 2 and 0. Section 1 is taken by 2, and then 3 by 0. Timer 1 expires at 300 and every 258 ticks, 6 is an alarm at 8. Timer 5 is
+/// sections 2 and 0. Section 1 of ceiling 7 is taken by 2, and then 3 of ceiling 6 by 0. Timer 1 expires at 300 and every 258 ticks, 6 is an alarm at 8. Timer 5 is
 /// being armed, from 515 on. Due are an Expire, a Late and a Switch to nobody.
 fn seven_threads() -> Parts {
     Parts {
         threads: 7,
         sections: 4,
-        bases: vec![1; 7],
-        needs: vec![15; 7],
+        bases: vec![1, 2, 3, 4, 5, 6, 7],
+        needs: vec![15, 15, 15, 15, 15, 15, 7],
         tick: 7,
         conditions: vec![(1, 0), (2, 9), (1, 0), (0, 0), (3, 0), (3, 2), (2, 10)],
         line: vec![2, 0],
         holds: vec![(1, 2), (3, 0)],
+        top: Top {
+            owner: Some(2),
+            ceiling: 7,
+        },
         waits: vec![5, 4],
         delays: vec![6, 1],
         timers: [(0, 0), (300, 258), (0, 0), (0, 0), (0, 0), (0, 0), (8, 0), (0, 0)],
@@ -45,10 +49,11 @@ fn lent_as(parts: Parts) -> impl Iterator<Item = Watch> {
 /// A state of another layout would be read past its end by the library.
 #[test]
 fn the_library_is_of_the_layout_that_is_lent() {
-    assert_eq!((beltcairn::abi(), beltcairn::ABI), (3, 3));
-    assert_eq!((offset_of!(Machine, waits), offset_of!(Machine, delays)), (192, 208));
-    assert_eq!((offset_of!(Machine, reported), offset_of!(Machine, timers)), (224, 228));
-    assert_eq!((size_of::<Machine>(), size_of::<Watch>()), (280, 408));
+    assert_eq!((beltcairn::abi(), beltcairn::ABI), (4, 4));
+    assert_eq!((offset_of!(Holds, top.owner), offset_of!(Holds, top.ceiling)), (24, 25));
+    assert_eq!((offset_of!(Machine, waits), offset_of!(Machine, delays)), (200, 216));
+    assert_eq!((offset_of!(Machine, reported), offset_of!(Machine, timers)), (232, 236));
+    assert_eq!((size_of::<Machine>(), size_of::<Watch>()), (288, 416));
 }
 
 #[test]
@@ -61,6 +66,7 @@ fn what_is_in_use_stands_where_the_header_says() {
         assert_eq!((m.waits.items & 0xff, m.waits.count), (0x45, 2));
         assert_eq!((m.delays.items & 0xff, m.delays.count), (0x16, 2));
         assert_eq!((m.holds.sections & 0xff, m.holds.threads & 0xff, m.holds.count), (0x13, 0x20, 2));
+        assert_eq!((m.holds.top.owner, m.holds.top.ceiling), (2, 7));
         assert_eq!(parts(&watch), seven_threads());
     }
 }
@@ -75,6 +81,16 @@ fn timers_and_reports_stand_where_the_header_says() {
         let due = &watch.state.due.items[watch.state.given..watch.state.due.count];
         let numbers: Vec<(u8, u16)> = due.iter().map(|report| (report.kind, report.operand)).collect();
         assert_eq!(numbers, [(21, 7), (22, 772), (17, 65535)]);
+    }
+}
+
+#[test]
+fn an_owner_is_a_byte_and_255_is_nobody() {
+    for (owner, byte) in [(None, 255), (Some(0), 0), (Some(254), 254)] {
+        let top = Top { owner, ceiling: 255 };
+        let lent = lend(&Parts { top, ..seven_threads() }, &mut Random::new(1));
+        let held = lent.state.machine.holds.top;
+        assert_eq!((held.owner, held.ceiling, parts(&lent).top), (byte, 255, top));
     }
 }
 
