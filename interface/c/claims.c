@@ -7,7 +7,7 @@ void ill_formed(struct beltcairn_watch watch)
 {
     static const struct beltcairn_report records[] = {{TICK, 0}, {LATE, 0}, {0, 0}};
     uint8_t before[sizeof watch];
-    memset((uint8_t *)&watch + sizeof watch - 7, 0xaa, 7);             /* behind the last field */
+    memset((uint8_t *)&watch + sizeof watch - 7, 0xaa, 7);       /* behind the last field */
     memset((uint8_t *)&watch.state.machine.holds + 26, 0xaa, 6); /* behind the last one of the holds */
     memcpy(before, &watch, sizeof before);
     for (size_t i = 0; i < 3; i++) {

@@ -205,8 +205,9 @@ static void leads_to(struct beltcairn_watch *watch, const struct beltcairn_repor
     }
 }
 
-/* A Give of a section that is not the latest taken in the module, as none is in a run from the start. */
-static void gives_of_an_earlier_hold(void)
+/* Gives, most of them of a section that is not the latest taken in the module, which no run from the start has. By the second one the earlier of
+ * two equal ones is left. */
+static void gives(void)
 {
     static const uint16_t given[] = {2, 2, 2, 0, 0, 3, 3, 3};
     static const struct Case before[] = {
@@ -215,7 +216,7 @@ static void gives_of_an_earlier_hold(void)
         {2, {{3, 0}, {4, 1}}, {0, 0}},         {1, {{3, 0}}, {0, 0}},
     };
     static const struct Case behind[] = {
-        {1, {{1, 1}}, {1, 7}},         {1, {{1, 1}}, {1, 7}},         {1, {{0, 1}}, {1, 1}}, /* of two equal ones the earlier is left */
+        {1, {{1, 1}}, {1, 7}},         {1, {{1, 1}}, {1, 7}},         {1, {{0, 1}}, {1, 1}},
         {2, {{1, 1}, {2, 0}}, {1, 7}}, {2, {{1, 1}, {2, 1}}, {1, 7}}, {1, {{4, 1}}, {1, 0}},
         {1, {{4, 1}}, {1, 0}},         {0, {{0, 0}}, {NOBODY_OWNS, 0}},
     };
@@ -282,7 +283,7 @@ void check_lent_tops(void)
     every_top();
     unused_entries();
     owner_and_thread_reported();
-    gives_of_an_earlier_hold();
+    gives();
     takes();
     heirs();
     barred_heirs();

@@ -188,6 +188,29 @@ static void two_heirs(void)
     GOES(plan, "two heirs", stretches);
 }
 
+/* Sixteen threads of priorities 4, 8, and so on to 64, each with a section of its own, which it takes while those before it hold theirs. */
+static void sixteen_holders(void)
+{
+    uint8_t rising[50] = {16, 16};
+    for (int i = 0; i < 16; i++) {
+        rising[2 + i] = (uint8_t)(4 * (i + 1));
+        rising[18 + 2 * i + i / 8] = (uint8_t)(1 << i % 8);
+    }
+    struct beltcairn_watch watch = begun(rising, sizeof rising);
+    for (uint8_t thread = 0; thread < 16; thread++) {
+        start(&watch, thread), step(&watch, TAKE, thread, 1);
+        EXPECT("sixteen holders", has_top(&watch, thread, (uint8_t)(4 * (thread + 1))));
+        step(&watch, WON, thread, 0);
+    }
+    for (uint8_t thread = 15; thread > 0; thread--) {
+        step(&watch, GIVE, thread, 0);
+        EXPECT("sixteen holders", has_top(&watch, (uint8_t)(thread - 1), (uint8_t)(4 * thread)));
+        step(&watch, END, 0, 1), step(&watch, SWITCH, (uint16_t)(thread - 1), 0);
+    }
+    step(&watch, GIVE, 0, 0);
+    EXPECT("sixteen holders", has_top(&watch, NOBODY_OWNS, 0));
+}
+
 /* Threads 0 and 1 have priority 2, thread 2 has 3; 0 and 2 need the section. Every other call is made while thread 0 holds it, and with nothing
  * held. */
 static void calls_that_move_no_hold(void)
@@ -246,6 +269,7 @@ void check_tops(void)
     heir_barred();
     heir_above_what_is_kept();
     two_heirs();
+    sixteen_holders();
     calls_that_move_no_hold();
     breaches_and_refusals();
 }

@@ -10,7 +10,8 @@ use Rattle.model.specs.Records.{Call, Create, Delay, Relinquish, End, Take, Giv
 use Rattle.model.specs.State.{waiting, hold, State, condition, lastReported, becomes, leaveQueue, joinQueue, arrive, joinWaits, leaveWaits, beginHold, endHold, owe}
 use Rattle.model.specs.Priorities.{heldCeiling, chosen}
 use Rattle.model.specs.Calls.{create, tick, delay, rivalled, relinquish, end, aboveAll, heldByOthers, take, wanted, heir, handOver, give, timing, switch, byCaller, perform}
-use Rattle.model.specs.Runs.{effect}
+use Rattle.model.specs.Rules.{broken}
+use Rattle.model.specs.Runs.{Outcome, moved, broke, outcome, effect, step}
 use Rattle.keeping.specs.Top.{Top, walk, gained, taken, handed, gave, setFor, setBy}
 use Rattle.keeping.proofs.Walks.{gained-walk}
 
@@ -73,3 +74,20 @@ module _ (p : Plan) (st : State) where
   pub set-walk : (r : Record) → setBy p r st (walk p (st .holds)) ≡ walk p (effect p r st .holds)
   set-walk (call k) = perform-walk k ∙ ap (walk p) (sym (switch-holds p (perform p k st)))
   set-walk (report r) = refl
+
+  -- so does each that moves the machine
+
+  abbrev stateOf : Outcome → (else : State) → State
+  stateOf (moved st') d = st'
+  stateOf (broke n) d = d
+
+  moved-by : (r : Record) (st' : State) → step p st r ≡ moved st' → effect p r st ≡ st'
+  unfolding step
+  moved-by r st' e = go (broken p st r) ∙ ap (λ o. stateOf o (effect p r st)) e
+    where
+      go : (o : Option ℕ) → effect p r st ≡ stateOf (outcome o (effect p r st)) (effect p r st)
+      go none = refl
+      go (some n) = refl
+
+  pub set-moved : (r : Record) (st' : State) → step p st r ≡ moved st' → setBy p r st (walk p (st .holds)) ≡ walk p (st' .holds)
+  set-moved r st' e = set-walk r ∙ ap (λ (x : State). walk p (x .holds)) (moved-by r st' e)

@@ -9,6 +9,7 @@ use lib.Dec.{T}
 use Rattle.model.specs.Runs.{moved, step}
 use Rattle.machine.specs.declared.state.State.{State}
 use Rattle.machine.specs.View.{planOf, view}
+use Rattle.machine.specs.Kept.{kept}
 use Rattle.machine.specs.Contracts.{Ceilings, later, still}
 use Rattle.machine.proofs.Laws.{still-moves}
 use Rattle.dump.specs.Layout.{operandAt, recordOf, recordAt, twoBytes}
@@ -30,6 +31,7 @@ alone-asked {s} {k} {n} a c =
     let m = s .machine in
     record {
       formed' = a .formed';
+      keeps = a .keeps;
       ceilings' = c;
       whole = record { count = omega arith; size = refl };
       within = omega arith;
@@ -41,7 +43,8 @@ alone-asked {s} {k} {n} a c =
 pub still-advances : {s : State} {k n : ℕ} → Asked s k n → k ≡ 7 → still s ≡ true → {s' : State} → s' ≡ later s → Advances s' 0 s (recordOf k n)
 still-advances {s} {k} {n} a q t {s'} e =
     record {
-      outcome = ap (λ (x : State). moved (view x)) e ∙ sym (still-moves s (a .formed') (a .room q) t) ∙ ap (λ j. step (planOf (s .machine)) (view s) (recordOf j n)) (sym q);
+      outcome = ap (λ (x : State). moved (view x)) e ∙ sym (still-moves s (a .formed') (a .keeps) (a .room q) t) ∙ ap (λ j. step (planOf (s .machine)) (view s) (recordOf j n)) (sym q);
       plan' = ap (λ (x : State). x .machine .plan) e;
-      kept = λ d. absurd (d refl);
+      stays = λ d. absurd (d refl);
+      keeps = subst (λ (x : State). T (kept (x .machine))) (sym e) (a .keeps);
     }

@@ -19,6 +19,8 @@ use Rattle.model.proofs.Tests.{is-true, and-left, and-right, and-both, or-right
 use Rattle.model.proofs.Searches.{all-at}
 use Rattle.model.proofs.Loops.{listed}
 use Rattle.model.proofs.Laws.{Reached, begin, next, reached-formed, judge-run, counts-fit, tick-at-most, broken-rule, run-ended, run-moved, run-broke}
+use Rattle.keeping.specs.Top.{Top, walkBy, walk, topFits}
+use Rattle.keeping.proofs.Laws.{walk-fits, set-moved}
 use Rattle.plan.specs.Bytes.{between, planOf}
 use Rattle.dump.specs.Layout.{recordCount, kindAt, operandAt, recordAt, decode, kindOf, operandOf}
 use Rattle.dump.specs.Questions.{mostRecords, kindAllowed, operandFits}
@@ -51,9 +53,9 @@ module _ (p : Plan) (v : T (validPlan p)) where
   few : threads p ≤ 65535
   few = omega (arith, counts-fit p v .0)
 
-  -- a watch state with this plan
+  -- a watch state with this plan, and what is kept the walk's result
   abbrev with : State → (rule : ℕ) → Watched
-  with st m = record { plan = p; state = st; rule = m }
+  with st m = record { plan = p; state = st; top = walk p (st .holds); rule = m }
 
   -- questions 12, 7, 8 and 13 have the answer Yes on an allowed record, in a well-formed state before the last tick number
   passes : (st : State) (m : ℕ) → T (formed p st) → T (isRule m) → st .tickNumber < lastTick → (r : Record) → T (allowed p r) → refusal (with st m) (kindOf r) (operandOf r) ≡ none
@@ -63,6 +65,7 @@ module _ (p : Plan) (v : T (validPlan p)) where
       let early = not-both (eqb (kindOf r) 7) (eqb (st .tickNumber) lastTick) (ne-test (st .tickNumber) lastTick (λ e. omega arith)) in
       rw (
         is-true (formed p st) f,
+        is-true (topFits p (st .holds) (walk p (st .holds))) (walk-fits p (st .holds)),
         is-true (isRule m) i,
         is-true (kindAllowed false (kindOf r)) (fits-kind (threads p) (p .sections) (kindOf r) (operandOf r) fits),
         is-true (operandFits (threads p) (p .sections) (kindOf r) (operandOf r)) fits,
@@ -80,7 +83,7 @@ module _ (p : Plan) (v : T (validPlan p)) where
       unfolding reply
       replies = rw (passes st 0 f tt h r a, record-back p few r a)
 
-      leaves : after (with st 0) (kindOf r) (operandOf r) ≡ stored (with st 0) (step p st r)
+      leaves : after (with st 0) (kindOf r) (operandOf r) ≡ stored (with st 0) r (step p st r)
       unfolding after
       leaves = rw (passes st 0 f tt h r a, record-back p few r a)
 
@@ -124,8 +127,10 @@ module _ (p : Plan) (v : T (validPlan p)) where
 
       go : (o : Outcome) → step p st s ≡ o
           → ((st' : State) → Reached p st' → st' .tickNumber + length rs < lastTick → reply (walked (with st' 0) rs) (kindOf r) (operandOf r) ≡ said (run p (suc i) (rs ++ r ∷ []) st'))
-          → reply (walked (stored (with st 0) o) rs) (kindOf r) (operandOf r) ≡ said (run p i (s ∷ rs ++ r ∷ []) st)
-      go (moved st') q ih = ih st' (next s b first q) (omega (arith, tick-at-most p st b s st' q)) ∙ ap said (sym (run-moved p i s (rs ++ r ∷ []) st st' q))
+          → reply (walked (stored (with st 0) s o) rs) (kindOf r) (operandOf r) ≡ said (run p i (s ∷ rs ++ r ∷ []) st)
+      go (moved st') q ih =
+          ap (λ (t : Top). reply (walked (record { plan = p; state = st'; top = t; rule = 0 }) rs) (kindOf r) (operandOf r)) (set-moved p st s st' q)
+          ∙ ih st' (next s b first q) (omega (arith, tick-at-most p st b s st' q)) ∙ ap said (sym (run-moved p i s (rs ++ r ∷ []) st st' q))
       go (broke n) q ih =
           ap (λ w. reply w (kindOf r) (operandOf r)) (stays st f k n (rule-stored p st s n q) rs (all-left (allowed p) rs (r ∷ []) rest))
           ∙ repeats st f k n (rule-stored p st s n q) r (all-at (allowed p) (rs ++ r ∷ []) rest (last rs))
@@ -134,6 +139,7 @@ module _ (p : Plan) (v : T (validPlan p)) where
 -- For every prefix of a list, the reply at its last record is what the whole check says of the prefix.
 pub stepwise : (p : Plan) → T (validPlan p) → (rs : List Record) (r : Record) → T (all (allowed p) (rs ++ r ∷ [])) → length rs < lastTick
     → reply (walked (fresh p) rs) (kindOf r) (operandOf r) ≡ said (judge p (rs ++ r ∷ []))
+unfolding walkBy
 stepwise p v rs r a h = stepwise-from p v rs r 0 (start p) begin a (omega arith) ∙ ap said (sym (judge-run p (rs ++ r ∷ [])))
 
 -- The same of bytes that the whole check does not refuse: the reply at record i is what the whole check says of the records up to it.

@@ -7,7 +7,9 @@ use Rattle.model.specs.Formed.{lastTick, formed}
 use Rattle.plan.specs.Bytes as plans
 use Rattle.plan.specs.Bytes.{number}
 use Rattle.machine.specs.declared.state.State.{State}
+use Rattle.lists.specs.Lists.{topOf}
 use Rattle.machine.specs.View.{planOf, view}
+use Rattle.machine.specs.Kept.{kept}
 use Rattle.dump.specs.Questions.{operandFits}
 use Rattle.live.specs.declared.live.Watch.{Watch}
 use Rattle.live.specs.declared.live.Begun.{Begun}
@@ -20,12 +22,13 @@ use Rattle.live.specs.Watching.{Watched, begin, reply, after}
 -- what one record asks of a state: that it passes 12, 8 and 13
 pub record Asked (s : State) (kind operand : ℕ) : Type 0 where
   pub formed' : T (formed (planOf (s .machine)) (view s))
+  pub keeps : T (kept (s .machine))
   pub operand' : T (operandFits (s .machine .plan .threads) (s .machine .plan .sections) kind operand)
   pub room : kind ≡ 7 → view s .tickNumber < lastTick
 
 -- the watch state that a struct stands for
 abbrev pub seen : Watch → Watched
-seen w = record { plan = planOf (w .state .machine); state = view (w .state); rule = w .rule }
+seen w = record { plan = planOf (w .state .machine); state = view (w .state); top = topOf (w .state .machine .holds .top); rule = w .rule }
 
 -- the refusal of a plan's bytes, 0 if there is none, and the state that is made of them
 pub record Begins (r : Begun) (plan : List ℕ) : Type 0 where

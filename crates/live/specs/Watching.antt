@@ -6,26 +6,29 @@ use Prim.Native.Nat.{ℕ}
 use lib.Dec.{eqb}
 use lib.ListN.{length}
 use Rattle.model.specs.Plan.{Plan, threads}
+use Rattle.model.specs.Records.{Record}
 use Rattle.model.specs.State.{State, start}
 use Rattle.model.specs.Rules.{Question, _asks_, firstNo}
 use Rattle.model.specs.Runs.{Outcome, moved, broke, step}
 use Rattle.model.specs.Formed.{lastTick, formed}
+use Rattle.keeping.specs.Top.{Top, topFits, setBy}
 use Rattle.plan.specs.Bytes as plans
 use Rattle.plan.specs.Bytes.{between}
 use Rattle.dump.specs.Layout.{recordOf}
 use Rattle.dump.specs.Questions.{kindAllowed, operandFits}
 
--- a plan, the machine's state, and the rule of a breach that is stored, 0 if there is none
+-- a plan, the machine's state, the owner and the greatest held ceiling kept beside it, and the rule of a breach that is stored, 0 if there is none
 pub record Watched : Type 0 where
   pub plan : Plan
   pub state : State
+  pub top : Top
   pub rule : ℕ
 
 -- A state is made from a plan that passes 1 to 4, and carries it. Of another plan there is the refusal alone: the state beside it carries a
 -- plan without threads, so that every step on it answers 12.
 
 abbrev pub fresh : Plan → Watched
-fresh p = record { plan = p; state = start p; rule = 0 }
+fresh p = record { plan = p; state = start p; top = record { owner = none; ceiling = 0 }; rule = 0 }
 
 abbrev pub noPlan : Plan
 noPlan = record { sections = 0; bases = []; needs = [] }
@@ -47,10 +50,10 @@ pub data Reply : Type 0 where
 abbrev pub isRule : ℕ → Bool
 isRule n = eqb n 0 || between 21 32 n
 
--- 12, asked before 7: is the lent state well formed? 7 and 8: kind and operand. 13, asked after 8: is it no Tick at the last tick number?
+-- 12, asked before 7: is the lent state well formed, and what it keeps the walk's result? 7 and 8: kind and operand. 13, asked after 8: is it no Tick at the last tick number?
 abbrev pub questions : Watched → (kind operand : ℕ) → List Question
 questions w k n =
-    12 asks (formed (w .plan) (w .state) && isRule (w .rule))
+    12 asks (formed (w .plan) (w .state) && topFits (w .plan) (w .state .holds) (w .top) && isRule (w .rule))
     ∷ 7 asks kindAllowed false k
     ∷ 8 asks operandFits (threads (w .plan)) (w .plan .sections) k n
     ∷ 13 asks not (eqb k 7 && eqb (w .state .tickNumber) lastTick)
@@ -66,10 +69,10 @@ abbrev pub replyOf : Outcome → Reply
 replyOf (moved st) = clean (length (st .due))
 replyOf (broke r) = broken r
 
--- A breach changes nothing in the state but to be stored there.
-abbrev pub stored : Watched → Outcome → Watched
-stored w (moved st) = record { plan = w .plan; state = st; rule = w .rule }
-stored w (broke r) = record { plan = w .plan; state = w .state; rule = r }
+-- Each call that moves a hold sets what is kept. A breach changes nothing in the state but to be stored there.
+abbrev pub stored : Watched → Record → Outcome → Watched
+stored w r (moved st) = record { plan = w .plan; state = st; top = setBy (w .plan) r (w .state) (w .top); rule = w .rule }
+stored w r (broke n) = record { plan = w .plan; state = w .state; top = w .top; rule = n }
 
 abbrev pub replyUnless : Option ℕ → Reply → Reply
 replyUnless none r = r
@@ -85,4 +88,4 @@ reply w k n = replyUnless (refusal w k n) (cond (eqb (w .rule) 0) (replyOf (outc
 
 -- the watch state after it: as it came in where the answer is 12, 7, 8, 13 or a stored breach
 unfoldable pub after : Watched → (kind operand : ℕ) → Watched
-after w k n = watchedUnless (refusal w k n) (cond (eqb (w .rule) 0) (stored w (outcomeOf w k n)) w) w
+after w k n = watchedUnless (refusal w k n) (cond (eqb (w .rule) 0) (stored w (recordOf k n) (outcomeOf w k n)) w) w

@@ -64,6 +64,7 @@ module _ {plan dump : List ℕ} {p : Plan} (u : Unrefused plan dump p) where
         record {
           valid = subst (λ (q : model.Plan). T (model.validPlan q)) (sym same-plan) (refusal-none-valid plan (u .plan'));
           ceilings' = ceilings-of (s .machine) p ceilings (f .plan') c;
+          keeps = f .keeps;
           whole = a .0;
           within = omega (arith, e);
           operands = λ i l h. subst (λ (q : Plan). T (operandFits (q .threads) (q .sections) (kindAt dump i) (operandAt dump i))) (sym (f .plan')) (entry-passes (p .threads) (p .sections) false dump (u .dump') i (omega (arith, e)) .1);

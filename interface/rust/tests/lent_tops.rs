@@ -4,7 +4,7 @@ mod known;
 use beltcairn::kind::{GIVE, LATE, LOST, READY, SWITCH, TAKE, TICK, WON};
 use beltcairn::packed::word;
 use beltcairn::{breach, refused, Reply, Top, Watch, NOBODY};
-use known::states::{held, is_refused, made, made_owing, owe, steps};
+use known::states::{held, is_refused, made, made_owing, owe, steps, top};
 
 /// Three threads and five sections: threads 0 and 1 have priority 1, thread 2 has 7; thread 0 needs section 0, thread 2 needs 1 and 2, and
 /// nobody needs 3 and 4. The ceilings are 1, 7, 7, 0 and 0.
@@ -12,11 +12,6 @@ const PLAN: [u8; 11] = [3, 5, 1, 1, 7, 1, 0, 0, 0, 6, 0];
 
 fn set_top(watch: &mut Watch, (owner, ceiling): (u8, u8)) {
     watch.state.machine.holds.top = Top { owner, ceiling };
-}
-
-fn top(watch: &Watch) -> (u8, u8) {
-    let Top { owner, ceiling } = watch.state.machine.holds.top;
-    (owner, ceiling)
 }
 
 /// These sections and threads, the latest first, and 0 behind them.
@@ -195,9 +190,9 @@ fn leads_to(watch: &mut Watch, records: &[(u8, u16)], pairs: &[(u8, u8)], right:
     }
 }
 
-/// A Give of a section that is not the latest taken in the module, as none is in a run from the start.
+/// Gives, most of them of a section that is not the latest taken in the module, which no run from the start has.
 #[test]
-fn gives_of_an_earlier_hold() {
+fn gives() {
     let give = |section, pairs: &[(u8, u8)], before, left: &[(u8, u8)], behind| {
         leads_to(&mut holding(pairs, before), &[(GIVE, section)], left, behind);
     };

@@ -3,8 +3,8 @@
 mod known;
 
 use beltcairn::kind::{CANCEL, CREATE, DELAY, END, EXPIRE, GIVE, LOST, READY, RELINQUISH, START, SWITCH, TAKE, TICK, WON, YIELD};
-use beltcairn::{breach, refused, Reply, Top, Watch, NOBODY};
-use known::states::{is_refused, owed, steps, walked, NOTHING_HELD};
+use beltcairn::{breach, refused, Reply, Watch, NOBODY};
+use known::states::{is_refused, owed, steps, top, walked, NOTHING_HELD};
 use known::timers::armed;
 use known::{known, started, Numbers, Run, PLAN_A};
 
@@ -16,11 +16,6 @@ const NONE: (u8, u8) = (255, 0);
 
 /// Owner and ceiling, and records behind each of which they are so.
 type Stretch<'a> = ((u8, u8), &'a [(u8, u16)]);
-
-fn top(watch: &Watch) -> (u8, u8) {
-    let Top { owner, ceiling } = watch.state.machine.holds.top;
-    (owner, ceiling)
-}
 
 /// Clean steps.
 fn go(watch: &mut Watch, stretches: &[Stretch]) {
@@ -204,6 +199,27 @@ fn two_heirs() {
     goes(&PLAN, &from_start(&start, stretches));
 }
 
+/// Sixteen threads of priorities 4, 8, and so on to 64, each with a section of its own, which it takes while those before it hold theirs.
+#[test]
+fn sixteen_holders() {
+    let mut plan = vec![16, 16];
+    plan.extend((1..=16).map(|i| 4 * i));
+    plan.extend((0..16).flat_map(|i| (1u16 << i).to_le_bytes()));
+    let mut watch = Watch::begin(&plan).unwrap();
+    for thread in 0..16 {
+        steps(&mut watch, &started(thread));
+        go(
+            &mut watch,
+            &[((thread as u8, 4 * (thread as u8 + 1)), &[(TAKE, thread), (WON, thread)])],
+        );
+    }
+    for thread in (1..16).rev() {
+        let given = [(GIVE, thread), (END, 0), (SWITCH, thread - 1)];
+        go(&mut watch, &[((thread as u8 - 1, 4 * thread as u8), &given)]);
+    }
+    go(&mut watch, &[(NONE, &[(GIVE, 0), (END, 0), (SWITCH, NOBODY)])]);
+}
+
 /// Threads 0 and 1 have priority 2, thread 2 has 3; 0 and 2 need the section. Every other call is made while thread 0 holds it, and with
 /// nothing held.
 #[test]
@@ -323,9 +339,13 @@ fn calls_in_no_order() {
         let mut watch = Watch::begin(&any_plan(&mut numbers)).unwrap();
         for _ in 0..200 {
             let (before, (kind, operand)) = (watch, any_call(&mut numbers, &watch));
-            if let Reply::Broken(rule) = watch.step(kind, operand) {
-                assert_eq!(watch, Watch { rule, ..before });
-                watch = before;
+            match watch.step(kind, operand) {
+                Reply::Clean(_) => {}
+                Reply::Broken(rule) => {
+                    assert_eq!(watch, Watch { rule, ..before });
+                    watch = before;
+                }
+                refused => panic!("{refused:?}"),
             }
             let expected = walked(&watch.state.machine);
             assert_eq!(watch.state.machine.holds.top, expected);

@@ -7,7 +7,7 @@ use crate::answer::{breaches, Answer};
 use crate::bytes::{list, plan, Numbers};
 use crate::difference::{differ, Compared, Difference};
 use crate::family::Family;
-use crate::moves::{EMPTIED, HEIR, LEFT, LOST, LOWERED, OVER, SAME, UNDER};
+use crate::moves::{EMPTIED, HEIR, HEIR_OVER, LEFT, LOST, LOWERED, OVER, SAME, UNDER};
 use crate::random::Random;
 use crate::sides::{check, watched, Pair};
 use crate::ticks::{AGAIN, AMONG, GONE, OTHER, OWED, TOGETHER};
@@ -56,13 +56,13 @@ pub fn beginnings() -> Vec<Small> {
         small("2 threads, between a Take and its Won", plan(1, &[1, 2], &[1, 1]), [9, 11], [0, 0])
             .behind("Create 0; Ready 0; Switch 0; Create 1; Ready 1; Switch 1; Delay 1; Switch 0; Tick; Take 0"),
         small(
-            "2 threads, behind a Take of the lower ceiling",
+            "2 threads, behind Takes of two ceilings",
             plan(2, &[1, 2], &[3, 1]),
             [8, 10],
             [0, 0],
         )
-        .with_moves(&[OVER, UNDER, LEFT, LOWERED, SAME, EMPTIED])
-        .behind("Create 0; Ready 0; Switch 0; Take 1; Won 0; Create 1; Ready 1; Switch 1"),
+        .with_moves(&[OVER, UNDER, LOST, LEFT, LOWERED, EMPTIED, HEIR_OVER])
+        .behind("Create 0; Ready 0; Switch 0; Take 1; Won 0; Take 0; Won 0; Create 1; Ready 1; Switch 1"),
         small("1 thread, behind two armings", unshared, [7, 9], [0, 0])
             .with_timers(2)
             .behind("Create 0; Ready 0; Switch 0; Arm 0; Start 1; Period 1; Late 0; Arm 1; Start 2; Period 2; Late 0"),

@@ -11,7 +11,7 @@ use crate::tops::{ceiling, greatest_first};
 /// What a run from the start leads to.
 pub const FROM_THE_START: [Answer; 9] = [OVER, UNDER, LOST, LEFT, LOWERED, SAME, EMPTIED, HEIR, HEIR_OVER];
 
-/// What only lent states have, the last three of them before any step.
+/// What lent states have besides, the last three of them before any step.
 pub const LENT: [Answer; 6] = [NOT_LATEST, HEIR_UNDER, HEIR_TIE, TIE, ZERO, NOTHING];
 
 /// What lent states show even where few of their steps are Takes and Gives of the running thread.
@@ -33,7 +33,7 @@ const NOT_LATEST: Answer = Answer::Showed("a Give of a hold that is not the late
 
 /// A Give with one.
 pub const HEIR: Answer = Answer::Showed("an heir that is the only holder");
-const HEIR_OVER: Answer = Answer::Showed("an heir that becomes owner above another");
+pub const HEIR_OVER: Answer = Answer::Showed("an heir that becomes owner above another");
 const HEIR_UNDER: Answer = Answer::Showed("an heir that leaves another the owner");
 const HEIR_TIE: Answer = Answer::Showed("an heir that becomes owner by a tie");
 

@@ -24,6 +24,12 @@ pub fn listed(queue: &Queue) -> Vec<u8> {
     numbers(queue.items)[..queue.count].to_vec()
 }
 
+/// The owner and the greatest ceiling that are kept.
+pub fn top(watch: &Watch) -> (u8, u8) {
+    let Top { owner, ceiling } = watch.state.machine.holds.top;
+    (owner, ceiling)
+}
+
 /// Section and thread of each hold, the latest first.
 pub fn held(holds: &Holds) -> Vec<(u8, u8)> {
     let pairs = numbers(holds.sections).into_iter().zip(numbers(holds.threads));

@@ -78,7 +78,7 @@ head (v ∷ vs) = v
 -- where the reply lies in what `live` tells, in bytes. The rules are told each field's type and place: a place that they find themselves is a sum over
 -- all the fields before it, and such sums make the check slow.
 abbrev reply-at : ℕ
-reply-at = 408
+reply-at = 416
 
 -- whoever holds what `live` tells knows of its watch state and of its reply that they fit their types
 

@@ -1,28 +1,33 @@
 -- `begin` meets its contract: the plan of bytes that nothing refuses, and no thread where something does.
-use mathlib.Core.Path.{_≡_, refl, ap, ap₂, sym, _∙_}
+use mathlib.Core.Path.{_≡_, refl, ap, sym, _∙_}
 use mathlib.Core.Logic.{⊎-elim, _≢_}
 use mathlib.Core.Option.{Option, none, some}
 use Prim.Native.Nat.{ℕ}
 use borrow.Author.Needs.{needs}
 use Rattle.model.specs.Plan as model
 use Rattle.model.specs.State as state
+use Rattle.keeping.specs.Top.{walkBy, walk}
+use Rattle.keeping.proofs.Laws.{fits-walk}
 use Rattle.plan.specs.declared.Plan.{Plan}
 use Rattle.plan.specs.Bytes.{planOf, refusal, number}
 use Rattle.plan.specs.View.{view}
 use Rattle.plan.proofs.Laws.{refusal-zero}
+use Rattle.lists.specs.Lists.{held, topOf}
 use Rattle.machine.specs.declared.state.State.{State}
 use Rattle.machine.specs.Contracts.{Fresh}
-use Rattle.live.specs.Watching.{Watched, fresh, noPlan, planUnless, begin}
+use Rattle.live.specs.Watching.{fresh, noPlan, planUnless, begin}
 use Rattle.live.specs.Contracts.{seen}
 use Rattle.live.proofs.live.begin.Statement.{statement}
 use Rattle.live.proofs.live.begin.Tie as tie
 
 -- a state at its start is what the model makes of its plan
 made : (s : State) (p : Plan) → Fresh s p → {q : model.Plan} → view p ≡ q → seen (record { state = s; rule = 0 }) ≡ fresh q
-made s p f e = ap₂ watched (ap view (f .plan')) (f .seen) ∙ ap fresh e
+unfolding walkBy
+made s p f e = (λ i. record { plan = view (f .plan' i); state = f .seen i; top = nothing-held i; rule = 0 }) ∙ ap fresh e
   where
-    watched : model.Plan → state.State → Watched
-    watched q st = record { plan = q; state = st; rule = 0 }
+    -- what is kept is the walk's result, and nothing is held
+    nothing-held : topOf (s .machine .holds .top) ≡ record { owner = none; ceiling = 0 }
+    nothing-held = fits-walk (view (s .machine .plan)) (held (s .machine .holds)) (topOf (s .machine .holds .top)) (f .keeps) ∙ ap (λ (st : state.State). walk (view (s .machine .plan)) (st .holds)) (f .seen)
 
 -- the plan of bytes that nothing refuses is carried; where a question refuses them, none is
 

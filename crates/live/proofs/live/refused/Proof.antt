@@ -4,10 +4,9 @@ use mathlib.Core.Logic.{⊎-elim}
 use mathlib.Core.Bool.{true, false}
 use borrow.Author.Needs.{needs}
 use borrow.Author.Tests.{eq-eqb, ne-eqb, not-true, not-false}
-use Rattle.model.specs.Formed.{formed}
 use Rattle.plan.specs.declared.Plan.{Plan}
 use Rattle.plan.proofs.Laws.{threads-view}
-use Rattle.machine.specs.View.{planOf, view}
+use Rattle.machine.specs.Kept.{sound}
 use Rattle.dump.specs.Questions.{kindAllowed, operandFits}
 use Rattle.live.specs.Watching.{isRule, refusal}
 use Rattle.live.proofs.live.refused.Statement.{statement}
@@ -19,7 +18,7 @@ plan c = c .before .before .before .before .before .args .watch .state .machine 
 
 -- what the answer Yes to each question says
 
-well-formed : (c : tie.Else1) → (let s = c .before .before .before .args .watch .state in formed (planOf (s .machine)) (view s) ≡ true)
+well-formed : (c : tie.Else1) → (let s = c .before .before .before .args .watch .state in sound s ≡ true)
 well-formed c = sym (c .before .formed .ensures) ∙ not-false (c .before .formed .result) (c .if1 .left)
 
 rule : (c : tie.Else2) → isRule (c .before .before .before .before .before .args .watch .rule) ≡ true
