@@ -23,8 +23,9 @@ use Rattle.plan.specs.declared.Plan.{Plan}
 use Rattle.plan.proofs.Laws.{threads-view}
 use Rattle.machine.specs.declared.state.State.{State}
 use Rattle.machine.specs.View.{planOf, view}
+use Rattle.machine.specs.Kept.{kept}
 use Rattle.machine.specs.Contracts.{Fresh}
-use Rattle.machine.proofs.Laws.{stands-formed, ceilings-of}
+use Rattle.machine.proofs.Laws.{stands-formed, keeps-on, ceilings-of}
 use Rattle.dump.specs.Layout.{kindAt, operandAt, recordAt}
 use Rattle.dump.specs.Questions.{operandFits}
 use Rattle.walk.specs.declared.single.Stepped.{Stepped}
@@ -51,6 +52,7 @@ behind-last a false = refl
 -- after k calls: the state, and the records so far; a call makes T + 9 reports at most, so 26 records
 pub record CallsMade (p : Plan) (list : List ℕ) (k : ℕ) (s : State) (done : List records.Record) : Type 0 where
   pub plan' : s .machine .plan ≡ p
+  pub keeps : T (kept (s .machine))
   pub reached : Reached (plans.view p) (view s)
   pub tick : view s .tickNumber ≤ k
   pub few : length done ≤ 26 * k
@@ -61,6 +63,7 @@ pub made-begin : (p : Plan) (list : List ℕ) (s : State) → Fresh s p → Call
 made-begin p list s f =
     record {
       plan' = f .plan';
+      keeps = f .keeps;
       reached = subst (Reached (plans.view p)) (sym (f .seen)) begin;
       tick = omega (arith, ap (λ (st : state.State). st .tickNumber) (f .seen));
       few = omega arith;
@@ -107,6 +110,7 @@ module _ {p : Plan} {ceilings list : List ℕ} {n : ℕ} (passed : Passed p ceil
     made-steps =
         record {
           formed' = stands-formed s (carried (λ q. T (model.validPlan q)) (passed .valid)) (carried (λ q. Reached q (view s)) (m .reached)) (omega (arith, m .tick, calls-few passed));
+          keeps = m .keeps;
           ceilings' = ceilings-of (s .machine) p ceilings (m .plan') (passed .ceilings');
           whole = list-whole passed;
           within = omega (arith, h, passed .count);
@@ -185,6 +189,7 @@ module _ {p : Plan} {ceilings list : List ℕ} {n : ℕ} (passed : Passed p ceil
             let after = view (o .state) in
             record {
               plan' = e .plan' ∙ a .plan' ∙ m .plan';
+              keeps = keeps-on (o .state .machine) (s' .machine) (e .plan') (e .holds') (a .keeps);
               reached = subst (Reached v) (sym (e .seen)) (settled-reached v after reached-call);
               tick = omega (arith, tick-after, ap (λ (st : state.State). st .tickNumber) (e .seen));
               few = omega (arith, m .few, made-due, added-count done list k after);

@@ -79,10 +79,11 @@ IsFormed s = T (formed (planOf (s .machine)) (view s))
 pub record Giving (first s : code.State) : Type 0 where
   pub formed' : 0 < length (view s .due) → IsFormed s
   pub plan' : s .machine .plan ≡ first .machine .plan
+  pub holds' : s .machine .holds ≡ first .machine .holds
   pub left : deliverAll (view s) ≡ deliverAll (view first)
 
 pub giving-begin : (s : code.State) → IsFormed s → Giving s s
-giving-begin s f = record { formed' = λ h. f; plan' = refl; left = refl }
+giving-begin s f = record { formed' = λ h. f; plan' = refl; holds' = refl; left = refl }
 
 module _ {first s : code.State} (g : Giving first s) where
   pub giving-owes : 0 < length (view s .due) → Owes s
@@ -103,8 +104,9 @@ module _ {first s : code.State} (g : Giving first s) where
               subst (λ (q : declared.Plan). T (formed (plans.view q) (view s'))) (sym (d .plan'))
               (subst (λ (x : State). T (formed p x)) (sym (d .seen)) (passes-all p st (given-formed p (view s) (reportOf r) (f .first) more here')));
           plan' = d .plan' ∙ g .plan';
+          holds' = d .holds' ∙ g .holds';
           left = ap deliverAll (d .seen) ∙ given-all p (view s) (reportOf r) (f .first) ∙ g .left;
         }
 
   pub giving-done : length (view s .due) ≤ 0 → Settles s first
-  giving-done h = record { plan' = g .plan'; seen = sym (given-none (view s) (none-left (view s .due) h)) ∙ g .left }
+  giving-done h = record { plan' = g .plan'; holds' = g .holds'; seen = sym (given-none (view s) (none-left (view s .due) h)) ∙ g .left }

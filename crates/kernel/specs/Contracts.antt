@@ -36,6 +36,7 @@ madeOf p list = bench (plans.view p) (callsOf (decode list))
 -- every report due is given
 pub record Settles (r s : State) : Type 0 where
   pub plan' : r .machine .plan ≡ s .machine .plan
+  pub holds' : r .machine .holds ≡ s .machine .holds
   pub seen : view r ≡ deliverAll (view s)
 
 -- whether every call is admitted, and how many records there are; 0 where one is not admitted

@@ -2,4 +2,5 @@
 mod Lending
 mod Alone
 mod Stepwise
+mod Keeping
 pub mod Laws

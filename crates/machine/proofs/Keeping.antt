@@ -9,8 +9,13 @@ use Rattle.model.specs.State.{Hold, hold}
 use Rattle.model.specs.Priorities.{heldCeiling}
 use Rattle.keeping.specs.Top.{Top, walkBy, walk, topFits, gained}
 use Rattle.keeping.proofs.Laws.{fits-walk, walk-fits, gained-walk}
+use Rattle.plan.specs.View as plans
+use Rattle.plan.specs.declared.Plan as declared
 use Rattle.lists.specs.declared.holds.Holds.{Holds}
 use Rattle.lists.specs.Lists.{held, topOf}
+use Rattle.machine.specs.declared.Machine.{Machine}
+use Rattle.machine.specs.View.{planOf}
+use Rattle.machine.specs.Kept.{kept}
 
 module _ (p : Plan) where
   -- these holds have the walk's result beside them
@@ -37,3 +42,7 @@ module _ (p : Plan) where
       ∙ ap₂ (λ (n : ℕ) (x : Top). gained n t x) c (fits-walk p (held h) (topOf (h .top)) k)
       ∙ gained-walk (heldCeiling p) (hold s t) (held h)
       ∙ ap (walk p) (sym e))
+
+-- neither plan nor holds have changed
+pub keeps-on : (m m' : Machine) → m' .plan ≡ m .plan → m' .holds ≡ m .holds → T (kept m) → T (kept m')
+keeps-on m m' e h t = subst (λ (q : declared.Plan). Keeps (plans.view q) (m' .holds)) (sym e) (subst (Keeps (planOf m)) (sym h) t)

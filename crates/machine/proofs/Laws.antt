@@ -27,6 +27,8 @@ use Rattle.machine.proofs.Room.{delays-fit}
 -- which condition a number names, and that of a thread of the plan
 pub use Rattle.machine.proofs.Conditions.{at-none, by-state}
 pub use Rattle.machine.proofs.Views.{condition-at}
+-- what is kept says the same where neither plan nor holds have changed
+pub use Rattle.machine.proofs.Keeping.{keeps-on}
 -- read from the ceilings made once, the ceilings of holds are the model's
 pub use Rattle.machine.proofs.Chosen.{ceilings-are}
 -- a state opened to be moved on from stands for the same state of the model
