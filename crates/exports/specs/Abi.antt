@@ -2,4 +2,4 @@
 use Prim.Native.Nat.{ℕ}
 
 abbrev pub abi : ℕ
-abi = 3
+abi = 4

@@ -23,7 +23,7 @@ use monitor::check::check;
 pub extern "C" fn beltcairn_abi() -> u32
     ensures { λ r. ⌜ r ≡ abi ⌝ }
 {
-    3
+    4
 }
 
 // The whole check of a plan and a dump. 0: clean, *at is the number of records and *due that of reports due. 1 to 8: that question refuses.

@@ -1,5 +1,5 @@
--- What holds of the definitions in specs/, each file on those above it. Laws lists what other crates may cite.
-pub mod Walks
-pub mod Sets
-pub mod Examples
+-- What holds of the definitions in specs/. Open to other crates is Laws, which lists what they may cite; the rest is this crate's own.
+mod Walks
+mod Sets
+mod Examples
 pub mod Laws

@@ -10,8 +10,8 @@ use compare::state::{lend, parts, REPORTS};
 use second::{Parts, Top};
 
 /// Threads 2 and 0 in the line in this order, 6 and 1 asleep since Delays in this order, 3 dormant, 5 and 4 waiting in this order for
-/// sections 2 and 0. Section 1 of ceiling 7 is taken by 2, and then 3 of ceiling 6 by 0. Timer 1 expires at 300 and every 258 ticks, 6 is an alarm at 8. Timer 5 is
-/// being armed, from 515 on. Due are an Expire, a Late and a Switch to nobody.
+/// sections 2 and 0. Section 1 of ceiling 7 is taken by 2, and then 3 of ceiling 6 by 0. Timer 1 expires at 300 and every 258 ticks, 6 is
+/// an alarm at 8. Timer 5 is being armed, from 515 on. Due are an Expire, a Late and a Switch to nobody.
 fn seven_threads() -> Parts {
     Parts {
         threads: 7,
