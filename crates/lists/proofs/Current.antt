@@ -2,11 +2,10 @@
 use mathlib.Core.Path.{_≡_, ap, ap₂, sym, _∙_}
 use mathlib.Core.Bool.{cond, not, _&&_}
 use mathlib.Core.List.{List, List·Memᴰ as Mem}
-use mathlib.Core.Option.{some}
 use Prim.Native.Nat.{ℕ, max, _<_}
 use native.Mathlib.Omega.{arith}
 use lib.Dec.{eqb}
-use Rattle.model.specs.Searches.{any, firstGreatest, greatest, same}
+use Rattle.model.specs.Searches.{any, firstGreatest, greatest}
 use Rattle.model.proofs.Searches.{any-agree, firstGreatest-agree}
 use Rattle.lists.specs.Lists.{threadOf, currentIn}
 use Rattle.lists.specs.Choice.{priorityIn, chosenIn, rivalledIn}

@@ -11,7 +11,7 @@ use Rattle.model.specs.Plan.{Plan}
 use Rattle.model.specs.Records.{Record}
 use Rattle.model.specs.State.{Hold}
 use Rattle.model.specs.Runs.{Outcome, moved, broke}
-use Rattle.keeping.specs.Top.{Top, walkBy, walk, setBy}
+use Rattle.keeping.specs.Top.{walkBy, walk, setBy}
 use Rattle.keeping.proofs.Laws.{set-moved}
 use Rattle.dump.specs.Layout.{recordOf, kindOf, operandOf}
 use Rattle.live.specs.Watching.{Watched, fresh, refusal, outcomeOf, stored, watchedUnless, after}

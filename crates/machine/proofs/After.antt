@@ -2,14 +2,14 @@
 use mathlib.Core.Path.{_≡_, refl, ap, sym, subst, _∙_}
 use mathlib.Core.Logic.{_⊎_, inl, inr}
 use mathlib.Core.Bool.{Bool, true, false, cond, not}
-use mathlib.Core.List.{List, [], _∷_, _++_, map, List·Memᴰ as Mem, List·Memᴰ·append-cases as append-cases, List·Memᴰ·eq-of-singleton as single}
+use mathlib.Core.List.{List, [], _∷_, _++_, List·Memᴰ as Mem, List·Memᴰ·append-cases as append-cases, List·Memᴰ·eq-of-singleton as single}
 use mathlib.Core.Option.{Option, none, some}
 use Prim.Native.Nat.{ℕ, suc, _+_, _≤_, _<_}
 use native.Mathlib.Omega.{arith}
 use lib.Dec.{T}
 use lib.ListN.{length, length-append}
-use Rattle.model.specs.Searches.{_▷_, filter, upTo, without}
-use Rattle.model.specs.Plan.{base, ceiling, validPlan}
+use Rattle.model.specs.Searches.{_▷_, filter, without}
+use Rattle.model.specs.Plan.{base, validPlan}
 use Rattle.model.specs.Records.{TimerCall, Arm, Start, Period, Cancel, Report, Ready, Won, Lost, Yield}
 use Rattle.model.specs.Timers.{Timers, lateDue}
 use Rattle.model.specs.State.{Condition, dormant, asleep, waiting, State, condition, latestSwitch, lastReported, becomes, leaveQueue, joinQueue, arrive, joinWaits, leaveWaits, isHold, beginHold, endHold, owe}

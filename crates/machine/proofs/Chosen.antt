@@ -2,13 +2,13 @@
 use mathlib.Core.Path.{_≡_, refl, ap, ap₂, sym, fun-ext, _∙_}
 use mathlib.Core.Logic.{_⊎_, inl, inr}
 use mathlib.Core.Bool.{cond, not, _&&_}
-use mathlib.Core.List.{List, [], map}
-use mathlib.Core.Option.{Option, none, some, Option·map}
+use mathlib.Core.List.{List, map}
+use mathlib.Core.Option.{Option, none, some}
 use Prim.Native.Nat.{ℕ, max, _≤_, _<_}
 use native.Mathlib.Omega.{arith}
 use lib.Dec.{T, eqb, ltb, ltb→lt, nltb→le}
 use lib.ListN.{getD}
-use Rattle.model.specs.Searches.{all, any, firstGreatest, greatest, upTo, same}
+use Rattle.model.specs.Searches.{all, any, firstGreatest, upTo, same}
 use Rattle.model.specs.Plan.{ceiling, validPlan}
 use Rattle.model.specs.Records.{Report}
 use Rattle.model.specs.State.{Hold}

@@ -2,7 +2,7 @@
 -- and arrays only what reading a lent state and its reports asks.
 use mathlib.Core.Path.{_≡_, ap, sym, _∙_}
 use mathlib.Core.List.{List, map}
-use Prim.Native.Nat.{ℕ, _≤_, _<_}
+use Prim.Native.Nat.{ℕ, _≤_}
 use lib.Dec.{T}
 use lib.ListN.{getD}
 use Rattle.model.specs.Searches.{upTo}

@@ -9,7 +9,6 @@ use crate::sleepers::wake;
 use clock::time::Tick;
 use clock::time::Wait;
 use due::made::Made;
-use due::reports::Reports;
 use lists::choice;
 use plan::lookup::base;
 

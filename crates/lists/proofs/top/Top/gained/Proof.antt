@@ -1,5 +1,4 @@
 -- `Top::gained` meets its contract: a ceiling below the one kept leaves the pair, any other makes the thread the owner.
-use mathlib.Core.Path.{refl, ap, sym, _∙_}
 use native.Mathlib.Omega.{arith}
 use borrow.Author.Tests.{ne-eqb, lt-ltb, le-ltb}
 use Rattle.keeping.specs.Top.{gained}
