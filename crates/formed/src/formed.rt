@@ -103,9 +103,9 @@ pub fn formed(state: State) -> bool
     if !keeps(m) {
         return false;
     }
-    let due = state.due;
-    if due.count <= state.given {
+    if state.due.count <= state.given {
         return shown(m);
     }
+    let due = state.due;
     reports::formed(due, state.given, m)
 }

@@ -7,18 +7,18 @@ ghost use Rattle.machine.specs.Kept.{kept};
 use machine::Machine;
 use plan::ceilings::ceilings;
 
-// Whether the owner and the greatest held ceiling are those that a walk finds. Where nothing is held no ceiling is asked for.
+// Whether the owner and the greatest held ceiling are those that a walk finds: 255 and 0 where nothing is held, and no ceiling is made there.
 pub(crate) fn keeps(m: Machine) -> bool
     requires { ⌜ T (formedMachine (planOf m) (idle m)) ⌝ }
     ensures { λ r. ⌜ r ≡ kept m ⌝ }
 {
     let holds = m.holds;
     let top = holds.top;
-    let mut all = [0u8; 16];
-    if 0 < holds.count {
-        let p = m.plan;
-        all = ceilings(p);
+    if holds.count == 0 {
+        return top.ceiling == 0 && top.owner == 255;
     }
+    let p = m.plan;
+    let all = ceilings(p);
     let found = holds.walk(&all);
     top.owner == found.owner && top.ceiling == found.ceiling
 }

@@ -37,24 +37,24 @@ agrees : (e : tie.Else2) → kept (start (e .before .before) .args .state .machi
 agrees e = was-yes (e .before .keeps .ensures) (e .if2 .left)
 
 shown-requires : tie.Need-shown-requires
-shown-requires c κs = let e = c .before .before .before .before in (from-true _ (standing (e .before .before)), from-true _ (agrees e))
+shown-requires c κs = let e = c .before .before in (from-true _ (standing (e .before .before)), from-true _ (agrees e))
 
 returns-3 : tie.Need-returns-3
 returns-3 c =
     let t = c .before in
-    let e = t .before .before .before .before in
+    let e = t .before .before in
     at-rest (start (e .before .before) .args .state) (standing (e .before .before)) (agrees e) (t .if3 .taken) (c .shown .ensures)
 
 formed-requires : tie.Need-formed-requires
 formed-requires c κs =
-    let e = c .before .before .before .before in
+    let e = c .before .before .before in
     let m = start (e .before .before) .args .state .machine in
     let f = from-true _ (standing (e .before .before)) in
-    (valid-fits (m .plan) (machine-facts m f .valid), delays-within m f, c .if3 .left)
+    (valid-fits (m .plan) (machine-facts m f .valid), delays-within m f, c .before .if3 .left)
 
 returns-4 : tie.Need-returns-4
 returns-4 c =
-    let e = c .before .before .before .before .before in
+    let e = c .before .before .before .before in
     with-due (start (e .before .before) .args .state) (standing (e .before .before)) (agrees e) (c .formed .ensures)
 
 pub formed-spec : {M : Type 1} → statement M
