@@ -5,3 +5,4 @@ mod Calm
 mod Outside
 mod Reported
 mod Timing
+mod Keeping

@@ -7,6 +7,7 @@ ghost use Rattle.machine.specs.View.{planOf, idle};
 ghost use Rattle.machine.specs.Kept.{kept, sound};
 ghost use Rattle.formed.specs.Contracts.{Counted, Stood};
 use crate::conditions;
+use crate::kept::empty_fits;
 use crate::kept::keeps;
 use crate::reports;
 use crate::standing::stand_once;
@@ -97,11 +98,16 @@ pub fn formed(state: State) -> bool
     ensures { λ r. ⌜ r ≡ sound state ⌝ }
 {
     let m = state.machine;
+    if !empty_fits(m.holds) {
+        return false;
+    }
     if !machine_formed(m) {
         return false;
     }
-    if !keeps(m) {
-        return false;
+    if 0 < m.holds.count {
+        if !keeps(m) {
+            return false;
+        }
     }
     if state.due.count <= state.given {
         return shown(m);

@@ -1,7 +1,10 @@
 // The watch state and the live step: one record at a time, on a state that is lent.
 ghost use mathlib.Core.Path.{_≡_};
 ghost use lib.ListN.{length};
+ghost use Prim.Native.Nat.{_<_};
+ghost use Rattle.model.specs.Formed.{lastTick};
 ghost use Rattle.machine.specs.View.{view};
+ghost use Rattle.machine.specs.Contracts.{later};
 ghost use Rattle.plan.specs.Bytes.{number};
 ghost use Rattle.dump.specs.Layout.{recordOf};
 ghost use Rattle.walk.specs.Contracts.{Advances};
@@ -122,6 +125,21 @@ fn moved(watch: Watch, after: State) -> Told
     }
 }
 
+// A Tick at which nothing happens moves the tick number alone, in the watch state that came: one made anew would be copied.
+fn ticked(watch: Watch) -> Told
+    requires { ⌜ watch .state .machine .tick .0 < lastTick ⌝ }
+    ensures { λ r. ⌜ r ≡ record { watch = record { state = later (watch .state); rule = watch .rule }; reply = says.Clean (length (view (watch .state) .due)) } ⌝ }
+{
+    let mut w = watch;
+    let now = watch.state.machine.tick;
+    let number = now.next();
+    w.state.machine.tick.0 = number.0;
+    Told {
+        watch: w,
+        reply: Reply::Clean(watch.state.due_count()),
+    }
+}
+
 // A new breach changes the stored rule alone.
 fn breached(watch: Watch, rule: u8) -> Told
     ensures { λ r. ⌜ r ≡ record { watch = record { state = watch .state; rule = rule }; reply = says.Broken rule } ⌝ }
@@ -154,8 +172,7 @@ pub fn live(watch: Watch, kind: u8, operand: u16) -> Told
         };
     }
     if kind == 7 && watch.state.is_still() {
-        let after = watch.state.later();
-        return moved(watch, after);
+        return ticked(watch);
     }
     let o = judged(watch.state, kind, operand);
     if o.rule != 0 {

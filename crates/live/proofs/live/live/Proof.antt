@@ -41,23 +41,20 @@ is-still-requires c κs =
     let q = admitted k in
     (q .room (c .if3 .taken), lent-delays (k .before .before .before .before .args .watch .state) (q .formed'))
 
-later-requires : tie.Need-later-requires
-later-requires c κs = let t = c .before .before in admitted (t .before) .room (t .if3 .taken)
-
-moved-requires : tie.Need-moved-requires
-moved-requires c κs = search needs
+ticked-requires : tie.Need-ticked-requires
+ticked-requires c κs = let t = c .before .before in admitted (t .before) .room (t .if3 .taken)
 
 -- a Tick at which nothing happens
 returns-3 : tie.Need-returns-3
 returns-3 c =
     let l = c .before in
-    let i = l .before .before in
+    let i = l .before in
     let t = i .before in
     let k = t .before in
     let e = k .before .before in
     let a = e .before .before .args in
-    let still' = still-advances (admitted k) (t .if3 .taken) (sym (i .is-still .ensures) ∙ l .before .if4 .taken) (l .later .ensures) in
-    rw (c .moved .ensures) (tells-clean (a .watch) (a .kind) (a .operand) (accepted e) (k .if2 .left) still' refl refl)
+    let still' = still-advances (admitted k) (t .if3 .taken) (sym (i .is-still .ensures) ∙ l .if4 .taken) refl in
+    rw (c .ticked .ensures) (tells-clean (a .watch) (a .kind) (a .operand) (accepted e) (k .if2 .left) still' refl refl)
 
 judged-requires : tie.Need-judged-requires
 judged-requires c κs = admitted (c .before)
@@ -73,8 +70,8 @@ returns-4 c =
     let a = e .before .before .args in
     rw (c .breached .ensures) (tells-broken (a .watch) (a .kind) (a .operand) (accepted e) (k .if2 .left) (j .judged .ensures) (c .before .if5 .taken))
 
-moved-requires-2 : tie.Need-moved-requires-2
-moved-requires-2 c κs = search needs
+moved-requires : tie.Need-moved-requires
+moved-requires c κs = search needs
 
 returns-5 : tie.Need-returns-5
 returns-5 c =
@@ -83,8 +80,8 @@ returns-5 c =
     let k = j .before .before in
     let e = k .before .before in
     let a = e .before .before .args in
-    rw (c .moved2 .ensures) (tells-clean (a .watch) (a .kind) (a .operand) (accepted e) (k .if2 .left) (j .judged .ensures) (i .if5 .left) refl)
+    rw (c .moved .ensures) (tells-clean (a .watch) (a .kind) (a .operand) (accepted e) (k .if2 .left) (j .judged .ensures) (i .if5 .left) refl)
 
 pub live-spec : {M : Type 1} → statement M
 live-spec =
-    tie.close (tie.spec refused-requires returns returns-2 is-still-requires later-requires moved-requires returns-3 judged-requires breached-requires returns-4 moved-requires-2 returns-5)
+    tie.close (tie.spec refused-requires returns returns-2 is-still-requires ticked-requires returns-3 judged-requires breached-requires returns-4 moved-requires returns-5)
