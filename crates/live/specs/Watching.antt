@@ -50,14 +50,17 @@ pub data Reply : Type 0 where
 abbrev pub isRule : ℕ → Bool
 isRule n = eqb n 0 || between 21 32 n
 
--- 12, asked before 7: is the lent state well formed, and what it keeps the walk's result? 7 and 8: kind and operand. 13, asked after 8: is it no Tick at the last tick number?
-abbrev pub questions : Watched → (kind operand : ℕ) → List Question
-questions w k n =
-    12 asks (formed (w .plan) (w .state) && topFits (w .plan) (w .state .holds) (w .top) && isRule (w .rule))
-    ∷ 7 asks kindAllowed false k
+-- 7 and 8: kind and operand. 13, asked after 8: is it no Tick at the last tick number?
+abbrev pub recordQuestions : Watched → (kind operand : ℕ) → List Question
+recordQuestions w k n =
+    7 asks kindAllowed false k
     ∷ 8 asks operandFits (threads (w .plan)) (w .plan .sections) k n
     ∷ 13 asks not (eqb k 7 && eqb (w .state .tickNumber) lastTick)
     ∷ []
+
+-- 12, asked before 7: is the lent state well formed, and what it keeps the walk's result?
+abbrev pub questions : Watched → (kind operand : ℕ) → List Question
+questions w k n = 12 asks (formed (w .plan) (w .state) && topFits (w .plan) (w .state .holds) (w .top) && isRule (w .rule)) ∷ recordQuestions w k n
 
 unfoldable pub refusal : Watched → (kind operand : ℕ) → Option ℕ
 refusal w k n = firstNo (questions w k n)

@@ -8,7 +8,8 @@ ghost use Rattle.machine.specs.Contracts.{later};
 ghost use Rattle.plan.specs.Bytes.{number};
 ghost use Rattle.dump.specs.Layout.{recordOf};
 ghost use Rattle.walk.specs.Contracts.{Advances};
-ghost use Rattle.live.specs.Watching.{isRule, refusal};
+ghost use Rattle.model.specs.Rules.{firstNo};
+ghost use Rattle.live.specs.Watching.{isRule, recordQuestions, refusal};
 ghost use Rattle.live.specs.Contracts.{Asked, seen, Begins, Tells};
 ghost use Rattle.live.specs.declared.live.Reply.the-variants as says;
 use clock::time::LAST_TICK;
@@ -78,18 +79,14 @@ fn is_rule(rule: u8) -> bool
     rule == 0 || (21 <= rule && rule <= 32)
 }
 
-// 12, 7, 8 and 13, in this order: the number of the first No, 0 if there is none.
-fn refused(watch: Watch, kind: u8, operand: u16) -> u8
-    ensures { λ r. ⌜ r ≡ number (refusal (seen watch) kind operand) ⌝ }
+// 7, 8 and 13, in this order: the number of the first No, 0 if there is none.
+fn record_refused(watch: Watch, kind: u8, operand: u16) -> u8
+    ensures { λ r. ⌜ r ≡ number (firstNo (recordQuestions (seen watch) kind operand)) ⌝ }
 {
-    let s = watch.state;
-    if !formed(s) || !is_rule(watch.rule) {
-        return 12;
-    }
     if !kind_allowed(false, kind) {
         return 7;
     }
-    let m = s.machine;
+    let m = watch.state.machine;
     let p = m.plan;
     if !operand_fits(p.threads, p.sections, kind, operand) {
         return 8;
@@ -99,6 +96,18 @@ fn refused(watch: Watch, kind: u8, operand: u16) -> u8
         return 13;
     }
     0
+}
+
+// 12 and behind it 7, 8 and 13. What is asked of the record is found before, since it takes a few numbers of the state, and 12 takes all.
+fn refused(watch: Watch, kind: u8, operand: u16) -> u8
+    ensures { λ r. ⌜ r ≡ number (refusal (seen watch) kind operand) ⌝ }
+{
+    let later = record_refused(watch, kind, operand);
+    let s = watch.state;
+    if !formed(s) || !is_rule(watch.rule) {
+        return 12;
+    }
+    later
 }
 
 // One record that passed 12, 7, 8 and 13: a walk over a dump that has it alone.
