@@ -4,7 +4,7 @@ ghost use Prim.Native.Nat.{_+_, _≤_, _<_};
 ghost use mathlib.Core.Bool.{_&&_};
 ghost use lib.Dec.{leb, ltb};
 ghost use Rattle.model.specs.Formed.{lastTick};
-ghost use Rattle.machine.specs.Contracts.{nextEvent, passed, still, later};
+ghost use Rattle.machine.specs.Contracts.{nextEvent, passed, still};
 use crate::reporting::Reporting;
 use crate::sleepers::soonest;
 use crate::state::State;
@@ -75,17 +75,5 @@ impl State {
         let wakes = self.machine.wakes;
         let first = soonest(self.machine.delays, wakes);
         number.0 < first.0
-    }
-
-    // After such a Tick: the tick number grows, and nothing else changes.
-    pub fn later(self) -> State
-        requires { ⌜ self .machine .tick .0 < lastTick ⌝ }
-        ensures { λ r. ⌜ r ≡ later self ⌝ }
-    {
-        let mut s = self;
-        let now = self.machine.tick;
-        let number = now.next();
-        s.machine.tick.0 = number.0;
-        s
     }
 }

@@ -5,7 +5,7 @@ use mathlib.Core.Bool.{true}
 use borrow.Author.Needs.{needs}
 use borrow.Author.Tests.{not-true, not-false}
 use Rattle.machine.specs.Kept.{sound}
-use Rattle.live.specs.Watching.{isRule, refusal}
+use Rattle.live.specs.Watching.{refusal}
 use Rattle.live.proofs.live.refused.Statement.{statement}
 use Rattle.live.proofs.live.refused.Tie as tie
 
