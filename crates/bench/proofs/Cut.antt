@@ -7,20 +7,20 @@ use Prim.Native.Nat.{ℕ}
 use native.Mathlib.Omega.{arith}
 use lib.ListN.{length, take}
 use Rattle.kernel.specs.Answers.{refused, answer, output}
-use Rattle.kernel.proofs.Laws.{refused-answer, refused-output}
-use Rattle.streams.proofs.Laws.{cut-same}
-use Rattle.bench.specs.Printed.{answered, filled, dumpIn, line_of, toOutput, toError}
+use Rattle.kernel.proofs.Laws.{refused_answer, refused_output}
+use Rattle.streams.proofs.Laws.{cut_same}
+use Rattle.bench.specs.Printed.{answered, filled, dump_in, line_of, to_output, to_error}
 
 -- the buffer has 65,536 bytes
 
-pub cut-answered : (input : List ℕ) (space : ℕ) → answered (take 65536 input) space ≡ answered input space
-cut-answered input space = cut-same true (λ plan list. answer plan list space) refused (λ plan list. refused-answer plan list space) 65536 (omega arith) input
+pub cut_answered : (input : List ℕ) (space : ℕ) → answered (take 65536 input) space ≡ answered input space
+cut_answered input space = cut_same true (λ plan list. answer plan list space) refused (λ plan list. refused_answer plan list space) 65536 (omega arith) input
 
-pub cut-filled : (input out : List ℕ) → filled (take 65536 input) out ≡ filled input out
-cut-filled input out = cut-same true (λ plan list. output plan list out) (λ q. out) (λ plan list. refused-output plan list out) 65536 (omega arith) input
+pub cut_filled : (input out : List ℕ) → filled (take 65536 input) out ≡ filled input out
+cut_filled input out = cut_same true (λ plan list. output plan list out) (λ q. out) (λ plan list. refused_output plan list out) 65536 (omega arith) input
 
-pub cut-output : (input out : List ℕ) → toOutput (take 65536 input) out ≡ toOutput input out
-cut-output input out = ap₂ dumpIn (cut-answered input (length out)) (cut-filled input out)
+pub cut_output : (input out : List ℕ) → to_output (take 65536 input) out ≡ to_output input out
+cut_output input out = ap₂ dump_in (cut_answered input (length out)) (cut_filled input out)
 
-pub cut-error : (input : List ℕ) (space : ℕ) → toError (take 65536 input) space ≡ toError input space
-cut-error input space = ap line_of (cut-answered input space)
+pub cut_error : (input : List ℕ) (space : ℕ) → to_error (take 65536 input) space ≡ to_error input space
+cut_error input space = ap line_of (cut_answered input space)

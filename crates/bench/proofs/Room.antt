@@ -4,9 +4,9 @@ use mathlib.Core.List.{List}
 use Prim.Native.Nat.{ℕ}
 use native.Mathlib.Omega.{arith}
 use Rattle.kernel.specs.Answers.{refused}
-use Rattle.kernel.proofs.Laws.{enough-space}
-use Rattle.streams.specs.Input.{planIn, behindPlan}
+use Rattle.kernel.proofs.Laws.{enough_space}
+use Rattle.streams.specs.Input.{plan_in, behind_plan}
 use Rattle.bench.specs.Printed.{answered}
 
-pub never-too-short : (input : List ℕ) → answered input 65536 ≡ refused 11 → ⊥
-never-too-short input e = enough-space 65536 (omega arith) (planIn input) (behindPlan input) e
+pub never_too_short : (input : List ℕ) → answered input 65536 ≡ refused 11 → ⊥
+never_too_short input e = enough_space 65536 (omega arith) (plan_in input) (behind_plan input) e

@@ -3,7 +3,7 @@
 ghost use Rattle.std.specs.Prelude.{◌≡◌, length, take};
 ghost use Rattle.io.specs.Counts.{IsPrefixLen};
 ghost use Rattle.kernel.specs.Answers.{answer_of};
-ghost use Rattle.bench.specs.Printed.{answered, filled, toOutput, toError};
+ghost use Rattle.bench.specs.Printed.{answered, filled, to_output, to_error};
 
 use kernel::bench::{Written, bench};
 use libc::{STDERR_FILENO, STDOUT_FILENO};
@@ -30,8 +30,8 @@ fn answer(input: &[u8], out: &mut [u8]) -> Written
 // All that is written of an input. Rules out a dump cut short, a refusal with another word, and one without its end.
 fn written(input: &[u8], out: &mut [u8], line: &mut [u8; 64]) -> Sizes
     ensures prefix_len { IsPrefixLen result.dump out.new × IsPrefixLen result.line line.new }
-    ensures out_after { take result.dump out.new ≡ toOutput input.now out.old }
-    ensures line_after { take result.line line.new ≡ toError input.now (length out.old) }
+    ensures out_after { take result.dump out.new ≡ to_output input.now out.old }
+    ensures line_after { take result.line line.new ≡ to_error input.now (length out.old) }
 {
     match answer(input, out) {
         Written::Refused(question) => {

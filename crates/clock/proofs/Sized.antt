@@ -10,8 +10,8 @@ use Rattle.clock.specs.contracts.timers.Timers.{the_type}
 use Rattle.clock.proofs.timers.Timers.TheLaws.{the_laws}
 
 module _ (t : Timers) (good : Is (row the_type) t (val the_type the_laws t ∷ [])) where
-  pub expiries-size : length t.expiries ≡ 8
-  expiries-size = sym (length-map t.expiries _) ∙ (owed the_type the_laws t _ good).0.1.0.1
+  pub expiries_size : length t.expiries ≡ 8
+  expiries_size = sym (length-map t.expiries _) ∙ (owed the_type the_laws t _ good).0.1.0.1
 
-  pub periods-size : length t.periods ≡ 8
-  periods-size = sym (length-map t.periods _) ∙ (owed the_type the_laws t _ good).1.0.1.0.1
+  pub periods_size : length t.periods ≡ 8
+  periods_size = sym (length-map t.periods _) ∙ (owed the_type the_laws t _ good).1.0.1.0.1

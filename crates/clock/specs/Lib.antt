@@ -1,3 +1,3 @@
 -- What a reader must believe of this crate: which timers of the model the code's numbers stand for, and what its functions ask and answer.
 pub mod View
-pub mod Contracts
+pub mod Clauses

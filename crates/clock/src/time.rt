@@ -1,6 +1,6 @@
 // A tick number and a number of ticks to wait are separate units; only number plus wait gives a number.
 ghost use Rattle.std.specs.Prelude.{◌≡◌, ◌+◌, ◌≤◌, ◌<◌};
-ghost use Rattle.model.specs.Formed.{lastTick, lastWake};
+ghost use Rattle.model.specs.Formed.{last_tick, last_wake};
 ghost use Rattle.model.specs.Timers.{lost};
 
 // The greatest tick number, the greatest that a sleeper waits for, and the greatest at which a timer expires: see model, Formed.
@@ -20,7 +20,7 @@ pub struct Wait(pub u32);
 impl Tick {
     // Number plus wait: the one addition.
     pub fn plus(self, wait: Wait) -> Tick
-        requires { self.0 + wait.0 ≤ lastWake }
+        requires { self.0 + wait.0 ≤ last_wake }
         ensures { result.0 ≡ self.0 + wait.0 }
     {
         Tick(self.0 + wait.0)
@@ -28,7 +28,7 @@ impl Tick {
 
     // The next tick number is a wait of one away.
     pub fn next(self) -> Tick
-        requires { self.0 < lastWake }
+        requires { self.0 < last_wake }
         ensures { result.0 ≡ self.0 + 1 }
     {
         self.plus(Wait(1))
@@ -36,7 +36,7 @@ impl Tick {
 
     // How many expiries a timer has lost that is armed at this tick number: see model, Timers.lost.
     pub fn lost(self, start: Tick, period: Wait) -> u32
-        requires { self.0 ≤ lastTick }
+        requires { self.0 ≤ last_tick }
         ensures { result ≡ lost self.0 start.0 period.0 }
     {
         if self.0 < start.0 {

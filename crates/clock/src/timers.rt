@@ -1,12 +1,12 @@
 // The eight timers, and the arming of one.
 ghost use Rattle.std.specs.Prelude.{◌≡◌, cond, ◌≤◌, ◌<◌, T, eqb, ltb};
 ghost use Rattle.std.proofs.Math.Option.{none};
-ghost use Rattle.model.specs.Records.{timerCount, Period};
+ghost use Rattle.model.specs.Records.{timer_count, Period};
 ghost use Rattle.model.specs.Rules.{stage};
-ghost use Rattle.model.specs.Timers.{noTimers, is_complete, afterArm, afterStart, timerGiven, slot, isArmed, setSlot, setArming, setTimer, startGiven, lost, armedAt, expiresAt, timer, again, move_on};
-ghost use Rattle.model.specs.Formed.{lastTick, lastWake, armingInRange};
+ghost use Rattle.model.specs.Timers.{no_timers, is_complete, after_arm, after_start, timer_given, slot, is_armed, set_slot, set_arming, set_timer, start_given, lost, armed_at, expires_at, timer, again, move_on};
+ghost use Rattle.model.specs.Formed.{last_tick, last_wake, arming_in_range};
 ghost use Rattle.clock.specs.View.{view, slot_of};
-ghost use Rattle.clock.specs.Contracts.{kindPlace, Comes, soonest};
+ghost use Rattle.clock.specs.Clauses.{kind_place, Comes, soonest};
 
 use crate::time::{LAST_WAKE, Tick, Wait};
 
@@ -36,7 +36,7 @@ pub struct Timers {
 impl Timers {
     // None is armed, and no arming is in progress.
     pub fn none() -> Timers
-        ensures { view result ≡ noTimers }
+        ensures { view result ≡ no_timers }
     {
         Timers {
             expiries: [Tick(0); TIMERS],
@@ -51,8 +51,8 @@ impl Timers {
 
     // 31: does a record of this kind stand where the arming has come to?
     pub fn in_order(self, kind: u8) -> bool
-        requires { T (armingInRange (view self).arming) }
-        ensures { result ≡ eqb (stage (view self).arming) (kindPlace kind) }
+        requires { T (arming_in_range (view self).arming) }
+        ensures { result ≡ eqb (stage (view self).arming) (kind_place kind) }
     {
         let a = self.arming;
         match kind {
@@ -72,8 +72,8 @@ impl Timers {
 
     // 32: is the timer armed?
     pub fn is_armed(self, timer: u8) -> bool
-        requires { timer < timerCount }
-        ensures { result ≡ isArmed (slot (view self) timer) }
+        requires { timer < timer_count }
+        ensures { result ≡ is_armed (slot (view self) timer) }
     {
         let all = self.expiries;
         let expiry = all[timer as usize];
@@ -83,7 +83,7 @@ impl Timers {
     // Arm: an arming has begun, of this timer. A call that is not admitted, here and below, leaves the timers as they are; it is told so, and not left
     // out, so that no copy of the timers depends on a test.
     pub fn begun(self, admitted: bool, timer: u8) -> Timers
-        ensures { view result ≡ cond admitted (setArming (afterArm timer) (view self)) (view self) }
+        ensures { view result ≡ cond admitted (set_arming (after_arm timer) (view self)) (view self) }
     {
         let mut t = self;
         let mut a = self.arming;
@@ -98,7 +98,7 @@ impl Timers {
     // Start: it goes on with a start.
     pub fn started(self, admitted: bool, number: u16) -> Timers
         requires { Comes self 1 }
-        ensures { view result ≡ cond admitted (setArming (afterStart (timerGiven (view self).arming) number) (view self)) (view self) }
+        ensures { view result ≡ cond admitted (set_arming (after_start (timer_given (view self).arming) number) (view self)) (view self) }
     {
         let mut t = self;
         let mut a = self.arming;
@@ -112,8 +112,8 @@ impl Timers {
 
     // Period: how many expiries are lost.
     pub fn lost(self, now: Tick, period: u16) -> u32
-        requires { Comes self 2 × (now.0 ≤ lastTick) }
-        ensures { result ≡ lost now.0 (startGiven (view self).arming) period }
+        requires { Comes self 2 × (now.0 ≤ last_tick) }
+        ensures { result ≡ lost now.0 (start_given (view self).arming) period }
     {
         let a = self.arming;
         now.lost(Tick(a.start as u32), Wait(period as u32))
@@ -121,8 +121,8 @@ impl Timers {
 
     // Period: the tick number of the first expiry to come, 0 for an alarm too late.
     fn first_expiry(self, now: Tick, period: u16) -> Tick
-        requires { Comes self 2 × (now.0 ≤ lastTick) }
-        ensures { slot_of result.0 period ≡ armedAt now.0 (startGiven (view self).arming) period }
+        requires { Comes self 2 × (now.0 ≤ last_tick) }
+        ensures { slot_of result.0 period ≡ armed_at now.0 (start_given (view self).arming) period }
     {
         let a = self.arming;
         let start = Tick(a.start as u32);
@@ -136,8 +136,8 @@ impl Timers {
 
     // Period: the timer is armed, or an alarm too late leaves it unarmed.
     pub fn armed(self, admitted: bool, now: Tick, period: u16) -> Timers
-        requires { Comes self 2 × (now.0 ≤ lastTick) }
-        ensures { view result ≡ cond admitted (setTimer (Period period) now.0 (view self)) (view self) }
+        requires { Comes self 2 × (now.0 ≤ last_tick) }
+        ensures { view result ≡ cond admitted (set_timer (Period period) now.0 (view self)) (view self) }
     {
         let mut t = self;
         let mut a = self.arming;
@@ -157,8 +157,8 @@ impl Timers {
 
     // Cancel: the timer is unarmed.
     pub fn cancelled(self, admitted: bool, timer: u8) -> Timers
-        requires { timer < timerCount }
-        ensures { view result ≡ cond admitted (setSlot timer none (view self)) (view self) }
+        requires { timer < timer_count }
+        ensures { view result ≡ cond admitted (set_slot timer none (view self)) (view self) }
     {
         let mut t = self;
         let mut expiries = self.expiries;
@@ -171,8 +171,8 @@ impl Timers {
 
     // Whether a timer expires at this tick number.
     pub fn expires(self, timer: usize, number: Tick) -> bool
-        requires { (timer < timerCount) × (0 < number.0) }
-        ensures { result ≡ expiresAt number.0 (slot (view self) timer) }
+        requires { (timer < timer_count) × (0 < number.0) }
+        ensures { result ≡ expires_at number.0 (slot (view self) timer) }
     {
         let all = self.expiries;
         let expiry = all[timer];
@@ -181,7 +181,7 @@ impl Timers {
 
     // Tick: those that expire at this tick number are unarmed, or expire again a period later.
     pub fn moved_on(self, number: Tick) -> Timers
-        requires { (0 < number.0) × (number.0 ≤ lastTick) }
+        requires { (0 < number.0) × (number.0 ≤ last_tick) }
         ensures { view result ≡ move_on number.0 (view self) }
     {
         let mut t = self;
@@ -219,7 +219,7 @@ impl Timers {
 
     // Whether every timer that is armed expires after this tick number: asked of all eight at once, without an early end.
     pub fn all_after(self, number: Tick) -> bool
-        requires { number.0 < lastWake }
+        requires { number.0 < last_wake }
         ensures { result ≡ ltb number.0 (soonest (view self).slots) }
     {
         let all = self.expiries;
@@ -238,7 +238,7 @@ impl Timers {
 
 // The next expiry of a timer that expires now, 0 for an alarm.
 fn again(now: Tick, period: u16) -> Tick
-    requires { (0 < now.0) × (now.0 ≤ lastTick) }
+    requires { (0 < now.0) × (now.0 ≤ last_tick) }
     ensures { slot_of result.0 period ≡ again (timer now.0 period) }
 {
     if period == 0 {

@@ -15,11 +15,11 @@ use Rattle.model.proofs.Tests.{split}
 use Rattle.model.proofs.Loops.{listed as entry_listed, length-listed}
 use Rattle.due.specs.declared.reports.Report.{Report}
 use Rattle.due.specs.declared.reports.Reports.{Reports}
-use Rattle.due.specs.Lists.{reportRoom, reportOf, IsReport, noReport, listed, owed}
+use Rattle.due.specs.Lists.{report_room, report_of, IsReport, no_report, listed, owed}
 
 -- as many reports as are in use
 pub length-owed : (rs : Reports) → length (owed rs) ≡ rs.count
-length-owed rs = length-listed (λ i. reportOf (get_or rs.items i noReport)) rs.count
+length-owed rs = length-listed (λ i. report_of (get_or rs.items i no_report)) rs.count
 
 -- one more is given: the first is due no longer
 pub drop-next : {A : Type 0} (n : ℕ) (l : List A) → drop (n + 1) l ≡ tail (drop n l)
@@ -31,41 +31,41 @@ drop-next {A} n l = rw add-one (go n l)
     go (suc n) [] = refl
     go (suc n) (a ∷ l) = go n l
 
-in-drop : {A : Type 0} (n : ℕ) (l : List A) {a : A} → Mem a (drop n l) → Mem a l
-in-drop zero l m = m
-in-drop (suc n) [] m = m
-in-drop (suc n) (b ∷ l) m = there (in-drop n l m)
+in_drop : {A : Type 0} (n : ℕ) (l : List A) {a : A} → Mem a (drop n l) → Mem a l
+in_drop zero l m = m
+in_drop (suc n) [] m = m
+in_drop (suc n) (b ∷ l) m = there (in_drop n l m)
 
 module _ (at : ℕ → Report) (n given : ℕ) where
   counted : length (listed at n) ≡ n
-  counted = length-listed (λ i. reportOf (at i)) n
+  counted = length-listed (λ i. report_of (at i)) n
 
   -- nothing is due where all are given
-  pub none-due : n ≤ given → drop given (listed at n) ≡ []
-  none-due h = drop_of_length-le (listed at n) {i = given} (omega (arith, counted))
+  pub none_due : n ≤ given → drop given (listed at n) ≡ []
+  none_due h = drop_of_length-le (listed at n) {i = given} (omega (arith, counted))
 
   -- otherwise the one behind those given is due first
-  pub first-due : given < n → drop given (listed at n) ≡ reportOf (at given) ∷ drop (suc given) (listed at n)
-  first-due h =
-      drop-cons (listed at n) given (reportOf noReport) (omega (arith, counted))
-      ∙ ap (λ r. r ∷ drop (suc given) (listed at n)) (entry_listed (λ i. reportOf (at i)) n given (reportOf noReport) h)
+  pub first_due : given < n → drop given (listed at n) ≡ report_of (at given) ∷ drop (suc given) (listed at n)
+  first_due h =
+      drop-cons (listed at n) given (report_of no_report) (omega (arith, counted))
+      ∙ ap (λ r. r ∷ drop (suc given) (listed at n)) (entry_listed (λ i. report_of (at i)) n given (report_of no_report) h)
 
-  pub next-due : given < n → drop given (listed at n) ≡ reportOf (at given) ∷ drop (given + 1) (listed at n)
-  next-due h = rw add-one (first-due h)
+  pub next_due : given < n → drop given (listed at n) ≡ report_of (at given) ∷ drop (given + 1) (listed at n)
+  next_due h = rw add-one (first_due h)
 
 -- and so is every one up to the count
-pub in-due : (at : ℕ → Report) (n given i : ℕ) → given ≤ i → i < n → Mem (reportOf (at i)) (drop given (listed at n))
-in-due at n given i a b =
+pub in_due : (at : ℕ → Report) (n given i : ℕ) → given ≤ i → i < n → Mem (report_of (at i)) (drop given (listed at n))
+in_due at n given i a b =
     let z : given + (i - given) ≡ i = omega arith in
-    in-drop (i - given) (drop given (listed at n)) (rw (drop-drop (i - given) given (listed at n), z, first-due at n i b) (here refl))
+    in_drop (i - given) (drop given (listed at n)) (rw (drop-drop (i - given) given (listed at n), z, first_due at n i b) (here refl))
 
 -- past the end of an array there is no report
-pub within : (items : List Report) (i : ℕ) → length items ≡ reportRoom → IsReport (get_or items i noReport) → i < reportRoom
-within items i size k = go (split (ltb i reportRoom))
+pub within : (items : List Report) (i : ℕ) → length items ≡ report_room → IsReport (get_or items i no_report) → i < report_room
+within items i size k = go (split (ltb i report_room))
   where
-    go : T (ltb i reportRoom) ⊎ T (not (ltb i reportRoom)) → i < reportRoom
-    go (inl u) = ltb→lt i reportRoom u
+    go : T (ltb i report_room) ⊎ T (not (ltb i report_room)) → i < report_room
+    go (inl u) = ltb→lt i report_room u
     go (inr u) =
-        let past : get_or items i noReport ≡ noReport = get_or-eq_default items noReport (omega (arith, nltb→le i reportRoom u)) in
-        let z : IsReport noReport = rw past at k in
+        let past : get_or items i no_report ≡ no_report = get_or-eq_default items no_report (omega (arith, nltb→le i report_room u)) in
+        let z : IsReport no_report = rw past at k in
         absurd (omega (arith, z.least))

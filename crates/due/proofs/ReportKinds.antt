@@ -10,11 +10,11 @@ use borrow.Author.Tests.{ne_eqb}
 use lib.Dec.{T, eqb, ltb→lt}
 use Rattle.model.specs.Searches.{same}
 use Rattle.model.specs.Plan.{Plan, threads}
-use Rattle.model.specs.Records.{Switch, Yield, report, reportKind, operand, nobody, operandThread, isThread, allowed, isSwitch, isExpire}
-use Rattle.model.specs.State.{switchedTo}
+use Rattle.model.specs.Records.{Switch, Yield, report, report_kind, operand, nobody, operand_thread, is_thread, allowed, is_switch, is_expire}
+use Rattle.model.specs.State.{switched_to}
 use Rattle.model.proofs.Tests.{equal?}
 use Rattle.due.specs.declared.reports.Report.{Report}
-use Rattle.due.specs.Lists.{threadOf, reportOf, IsReport, switchTo}
+use Rattle.due.specs.Lists.{thread_of, report_of, IsReport, switch_to}
 
 -- a number from n on that is not n, and one that is past the last kind
 
@@ -27,7 +27,7 @@ no_other k a b = omega arith
 module _ (r : Report) where
   -- what holds of each of the seven kinds, and of a number that names no kind, holds
   pub by_kind : (P : Type 0) → (r.kind ≡ 16 → P) → (r.kind ≡ 17 → P) → (r.kind ≡ 18 → P) → (r.kind ≡ 19 → P) → (r.kind ≡ 20 → P) → (r.kind ≡ 21 → P) → (r.kind ≡ 22 → P)
-      → ((IsReport r → ⊥) → reportOf r ≡ Yield nobody → P)
+      → ((IsReport r → ⊥) → report_of r ≡ Yield nobody → P)
       → P
   by_kind P a b c d e f g x = go (equal? r.kind 16) (equal? r.kind 17) (equal? r.kind 18) (equal? r.kind 19) (equal? r.kind 20) (equal? r.kind 21) (equal? r.kind 22)
     where
@@ -48,17 +48,17 @@ module _ (r : Report) where
 
   -- a Switch given names the thread reported, and no other report does
 
-  pub switches : (o : Option ℕ) → r.kind ≡ 17 → switchedTo o (reportOf r) ≡ operandThread r.operand
+  pub switches : (o : Option ℕ) → r.kind ≡ 17 → switched_to o (report_of r) ≡ operand_thread r.operand
   switches o e = rw e
 
-  pub switches-not : (o : Option ℕ) → r.kind ≢ 17 → switchedTo o (reportOf r) ≡ o
-  switches-not o n =
-      by_kind (switchedTo o (reportOf r) ≡ o) (λ e. rw e) (λ e. absurd (n e)) (λ e. rw e) (λ e. rw e) (λ e. rw e) (λ e. rw e) (λ e. rw e) (λ i e. ap (switchedTo o) e)
+  pub switches_not : (o : Option ℕ) → r.kind ≢ 17 → switched_to o (report_of r) ≡ o
+  switches_not o n =
+      by_kind (switched_to o (report_of r) ≡ o) (λ e. rw e) (λ e. absurd (n e)) (λ e. rw e) (λ e. rw e) (λ e. rw e) (λ e. rw e) (λ e. rw e) (λ i e. ap (switched_to o) e)
 
-  module _ (p : Plan) (h : threads p ≤ 16) (t : T (allowed p (report (reportOf r)))) where
+  module _ (p : Plan) (h : threads p ≤ 16) (t : T (allowed p (report (report_of r)))) where
     -- a report that a plan allows is of one of the seven kinds
-    pub is-report : IsReport r
-    is-report =
+    pub is_report_lem : IsReport r
+    is_report_lem =
         by_kind (IsReport r)
         (λ e. record { least = omega arith; most = omega arith })
         (λ e. record { least = omega arith; most = omega arith })
@@ -70,13 +70,13 @@ module _ (r : Report) where
         (λ i e. absurd (omega (arith, ltb→lt nobody (threads p) (rw e at t))))
 
     -- the low byte of a Switch's operand is the number of the thread that it names, 255 for nobody
-    pub names-one : r.kind ≡ 17 → threadOf (r.operand % 256) ≡ operandThread r.operand
-    names-one k = go (equal? r.operand nobody)
+    pub names_one : r.kind ≡ 17 → thread_of (r.operand % 256) ≡ operand_thread r.operand
+    names_one k = go (equal? r.operand nobody)
       where
-        known : T (isThread p (operandThread r.operand))
+        known : T (is_thread p (operand_thread r.operand))
         known = rw k at t
 
-        go : (r.operand ≡ nobody) ⊎ (r.operand ≢ nobody) → threadOf (r.operand % 256) ≡ operandThread r.operand
+        go : (r.operand ≡ nobody) ⊎ (r.operand ≢ nobody) → thread_of (r.operand % 256) ≡ operand_thread r.operand
         go (inl e) = rw e
         go (inr d) =
             let b : r.operand < 16 = omega (arith, ltb→lt r.operand (threads p) (rw (ne_eqb r.operand nobody d) at known)) in
@@ -85,43 +85,43 @@ module _ (r : Report) where
 
   -- a Switch, and an Expire of a timer, by kind and operand
 
-  not-kind : (n : ℕ) → 16 ≤ n → n ≤ 22 → (IsReport r → ⊥) → eqb r.kind n ≡ false
-  not-kind n a b i = ne_eqb r.kind n (λ e. i (record { least = omega arith; most = omega arith }))
+  not_kind : (n : ℕ) → 16 ≤ n → n ≤ 22 → (IsReport r → ⊥) → eqb r.kind n ≡ false
+  not_kind n a b i = ne_eqb r.kind n (λ e. i (record { least = omega arith; most = omega arith }))
 
-  pub switch-is : isSwitch (reportOf r) ≡ eqb r.kind 17
-  switch-is =
-      by_kind (isSwitch (reportOf r) ≡ eqb r.kind 17) (λ e. rw e) (λ e. rw e) (λ e. rw e) (λ e. rw e) (λ e. rw e) (λ e. rw e) (λ e. rw e)
-      (λ i e. ap isSwitch e ∙ sym (not-kind 17 (omega arith) (omega arith) i))
+  pub switch_is : is_switch (report_of r) ≡ eqb r.kind 17
+  switch_is =
+      by_kind (is_switch (report_of r) ≡ eqb r.kind 17) (λ e. rw e) (λ e. rw e) (λ e. rw e) (λ e. rw e) (λ e. rw e) (λ e. rw e) (λ e. rw e)
+      (λ i e. ap is_switch e ∙ sym (not_kind 17 (omega arith) (omega arith) i))
 
-  pub expire-is : (i : ℕ) → isExpire i (reportOf r) ≡ eqb r.kind 21 && eqb r.operand i
-  expire-is i =
-      by_kind (isExpire i (reportOf r) ≡ eqb r.kind 21 && eqb r.operand i) (λ e. rw e) (λ e. rw e) (λ e. rw e) (λ e. rw e) (λ e. rw e) (λ e. rw e) (λ e. rw e)
-      (λ k e. ap (isExpire i) e ∙ ap (λ b. b && eqb r.operand i) (sym (not-kind 21 (omega arith) (omega arith) k)))
+  pub expire_is : (i : ℕ) → is_expire i (report_of r) ≡ eqb r.kind 21 && eqb r.operand i
+  expire_is i =
+      by_kind (is_expire i (report_of r) ≡ eqb r.kind 21 && eqb r.operand i) (λ e. rw e) (λ e. rw e) (λ e. rw e) (λ e. rw e) (λ e. rw e) (λ e. rw e) (λ e. rw e)
+      (λ k e. ap (is_expire i) e ∙ ap (λ b. b && eqb r.operand i) (sym (not_kind 21 (omega arith) (omega arith) k)))
 
-  pub kind-is : IsReport r → reportKind (reportOf r) ≡ r.kind
-  kind-is i = by_kind (reportKind (reportOf r) ≡ r.kind) (λ e. rw e) (λ e. rw e) (λ e. rw e) (λ e. rw e) (λ e. rw e) (λ e. rw e) (λ e. rw e) (λ n e. absurd (n i))
+  pub kind_is : IsReport r → report_kind (report_of r) ≡ r.kind
+  kind_is i = by_kind (report_kind (report_of r) ≡ r.kind) (λ e. rw e) (λ e. rw e) (λ e. rw e) (λ e. rw e) (λ e. rw e) (λ e. rw e) (λ e. rw e) (λ n e. absurd (n i))
 
 -- the Switch to a thread by its number names it
-pub switch-to : (x : ℕ) → x < 256 → reportOf (switchTo x) ≡ Switch (threadOf x)
-switch-to x h = go (equal? x 255)
+pub switch_to_lem : (x : ℕ) → x < 256 → report_of (switch_to x) ≡ Switch (thread_of x)
+switch_to_lem x h = go (equal? x 255)
   where
-    go : (x ≡ 255) ⊎ (x ≢ 255) → reportOf (switchTo x) ≡ Switch (threadOf x)
+    go : (x ≡ 255) ⊎ (x ≢ 255) → report_of (switch_to x) ≡ Switch (thread_of x)
     go (inl e) = rw e
     go (inr d) = rw (ne_eqb x 255 d, ne_eqb x nobody (λ e. omega arith))
 
 -- numbers name the same thread where they are equal
-same_number : (m n : ℕ) → same (operandThread m) (operandThread n) ≡ eqb m n
+same_number : (m n : ℕ) → same (operand_thread m) (operand_thread n) ≡ eqb m n
 same_number m n = go (equal? m nobody) (equal? n nobody)
   where
-    go : (m ≡ nobody) ⊎ (m ≢ nobody) → (n ≡ nobody) ⊎ (n ≢ nobody) → same (operandThread m) (operandThread n) ≡ eqb m n
+    go : (m ≡ nobody) ⊎ (m ≢ nobody) → (n ≡ nobody) ⊎ (n ≢ nobody) → same (operand_thread m) (operand_thread n) ≡ eqb m n
     go (inl e) (inl f) = rw (e, f)
     go (inl e) (inr g) = rw (e, ne_eqb n nobody g) (sym (ne_eqb nobody n (λ q. g (sym q))))
     go (inr d) (inl f) = rw (f, ne_eqb m nobody d)
     go (inr d) (inr g) = rw (ne_eqb m nobody d, ne_eqb n nobody g)
 
 -- two reports of one kind have the same operand where their numbers for it are equal
-pub same_operand : (a b : Report) → IsReport a → a.kind ≡ b.kind → same (operand (reportOf a)) (operand (reportOf b)) ≡ eqb a.operand b.operand
+pub same_operand : (a b : Report) → IsReport a → a.kind ≡ b.kind → same (operand (report_of a)) (operand (report_of b)) ≡ eqb a.operand b.operand
 same_operand a b i k =
-    by_kind a (same (operand (reportOf a)) (operand (reportOf b)) ≡ eqb a.operand b.operand)
+    by_kind a (same (operand (report_of a)) (operand (report_of b)) ≡ eqb a.operand b.operand)
     (λ e. rw (← k, e)) (λ e. rw (← k, e) (same_number a.operand b.operand)) (λ e. rw (← k, e)) (λ e. rw (← k, e)) (λ e. rw (← k, e)) (λ e. rw (← k, e)) (λ e. rw (← k, e))
     (λ n e. absurd (n i))

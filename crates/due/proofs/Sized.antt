@@ -6,9 +6,9 @@ use denote.Laws.{Is}
 use denote.Struct.Laws.{owed, val}
 use denote.Struct.Declared.{row}
 use Rattle.due.specs.declared.reports.Reports.{Reports}
-use Rattle.due.specs.Lists.{reportRoom}
+use Rattle.due.specs.Lists.{report_room}
 use Rattle.due.specs.contracts.reports.Reports.{the_type as reports-type}
 use Rattle.due.proofs.reports.Reports.TheLaws.{the_laws as reports-laws}
 
-pub reports-size : (r : Reports) → Is (row reports-type) r (val reports-type reports-laws r ∷ []) → length r.items ≡ reportRoom
-reports-size r g = sym (length-map r.items _) ∙ (owed reports-type reports-laws r _ g).0.1.0.1
+pub reports_size : (r : Reports) → Is (row reports-type) r (val reports-type reports-laws r ∷ []) → length r.items ≡ report_room
+reports_size r g = sym (length-map r.items _) ∙ (owed reports-type reports-laws r _ g).0.1.0.1

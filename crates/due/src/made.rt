@@ -1,7 +1,7 @@
 // What a call other than Tick makes due.
 ghost use Rattle.std.specs.Prelude.{[], ◌∷◌, min};
 ghost use Rattle.model.specs.Records.{Ready, Won, Late};
-ghost use Rattle.due.specs.Lists.{reportBy, Tells};
+ghost use Rattle.due.specs.Lists.{report_by, Tells};
 
 use crate::reports::Report;
 
@@ -25,7 +25,7 @@ impl Made {
     }
 
     pub fn one(kind: u8, who: u8) -> Made
-        ensures { Tells result (reportBy kind who ∷ []) }
+        ensures { Tells result (report_by kind who ∷ []) }
     {
         Made {
             first: Report::of(kind, who),

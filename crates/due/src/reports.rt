@@ -1,10 +1,10 @@
 // The reports due, in order: at most one for each thread and each timer, and a Switch. What a Tick adds joins the end.
 ghost use Rattle.std.specs.Prelude.{◌≡◌, [], ◌++◌, map, ◌+◌, ◌≤◌, ◌<◌, drop};
 ghost use Rattle.model.specs.Timers as model;
-ghost use Rattle.model.specs.State.{withoutSwitch};
+ghost use Rattle.model.specs.State.{without_switch};
 ghost use Rattle.lists.specs.Lists.{queued};
 ghost use Rattle.clock.specs.View as timing;
-ghost use Rattle.due.specs.Lists.{reportRoom, switchTo, reportBy, owed, TickFits, afterTick};
+ghost use Rattle.due.specs.Lists.{report_room, switch_to, report_by, owed, TickFits, after_tick};
 
 use clock::time::Tick;
 use clock::timers::{TIMERS, Timers};
@@ -44,7 +44,7 @@ impl Report {
 
     // The Switch to a thread, 255 for nobody.
     pub fn switch(who: u8) -> Report
-        ensures { result ≡ switchTo who }
+        ensures { result ≡ switch_to who }
     {
         let operand = if who == 255 { 65535 } else { who as u16 };
         Report {
@@ -68,8 +68,8 @@ impl Reports {
 
     // Whether an Expire of this timer is due, where the first `given` are given.
     pub fn owes_expire(self, given: usize, timer: u8) -> bool
-        requires { given < self.count → self.count ≤ reportRoom }
-        ensures { result ≡ model.owesExpire (drop given (owed self)) timer }
+        requires { given < self.count → self.count ≤ report_room }
+        ensures { result ≡ model.owes_expire (drop given (owed self)) timer }
     {
         let items = self.items;
         let n = self.count;
@@ -86,7 +86,7 @@ impl Reports {
 
     // The timers whose tick number this is and of which no Expire is due, lower timer first, where the first `given` reports are given.
     fn expired(self, given: usize, timers: Timers, number: Tick) -> Queue
-        requires { (0 < number.0) × (given < self.count → self.count ≤ reportRoom) }
+        requires { (0 < number.0) × (given < self.count → self.count ≤ report_room) }
         ensures { queued result ≡ model.expired number.0 (drop given (owed self)) (timing.view timers) }
     {
         let mut out = Queue::none();
@@ -102,8 +102,8 @@ impl Reports {
 
     // Those behind the first `given` but a Switch, in an array of their own: mostly none is due, and then nothing is read of the old one.
     fn without_switch(self, given: usize) -> Reports
-        requires { given < self.count → self.count ≤ reportRoom }
-        ensures { owed result ≡ withoutSwitch (drop given (owed self)) }
+        requires { given < self.count → self.count ≤ report_room }
+        ensures { owed result ≡ without_switch (drop given (owed self)) }
     {
         let all = self.items;
         let count = self.count;
@@ -125,8 +125,8 @@ impl Reports {
     // A report of this kind more at the end for each of these. Here and above the array is a variable of the loop: in a function that stores one report and
     // hands the array back, it would be copied for each.
     fn joined(self, kind: u8, who: Queue) -> Reports
-        requires { (who.count ≤ 16) × (self.count + who.count ≤ reportRoom) }
-        ensures { owed result ≡ owed self ++ map (reportBy kind) (queued who) }
+        requires { (who.count ≤ 16) × (self.count + who.count ≤ report_room) }
+        ensures { owed result ≡ owed self ++ map (report_by kind) (queued who) }
     {
         let mut items = self.items;
         let mut n = self.count;
@@ -147,7 +147,7 @@ impl Reports {
     // and of which none is due, and behind those a Ready for each of the woken.
     pub fn ticked(self, given: usize, timers: Timers, number: Tick, woken: Queue) -> Reports
         requires { TickFits self given number.0 (timing.view timers) woken.count }
-        ensures { owed result ≡ afterTick (drop given (owed self)) number.0 (timing.view timers) (queued woken) }
+        ensures { owed result ≡ after_tick (drop given (owed self)) number.0 (timing.view timers) (queued woken) }
     {
         let ended = self.expired(given, timers, number);
         self.without_switch(given)

@@ -5,7 +5,7 @@ use mathlib.Core.List.{List, [], ◌∷◌, map, map-id}
 use Prim.Native.Nat.{ℕ, ◌+◌, ◌≤◌, ◌<◌}
 use native.Mathlib.Omega.{arith}
 use Rattle.model.specs.Searches.{all, up_to}
-use Rattle.model.proofs.Loops.{AllLeft, all-begin, passed, failed, all-passed}
+use Rattle.model.proofs.Loops.{AllLeft, all_begin, passed, failed, all_passed}
 
 module _ (asked : ℕ → Bool) (n : ℕ) where
   -- before record i: whether those that are left pass is whether all pass
@@ -14,7 +14,7 @@ module _ (asked : ℕ → Bool) (n : ℕ) where
     pub left : AllLeft asked (λ k. k) n i
 
   pub asking : Asking 0
-  asking = record { within = omega arith; left = all-begin asked (λ k. k) n }
+  asking = record { within = omega arith; left = all_begin asked (λ k. k) n }
 
   listed : all asked (map (λ k. k) (up_to n)) ≡ all asked (up_to n)
   listed = ap (all asked) (map-id (up_to n))
@@ -27,7 +27,7 @@ module _ (asked : ℕ → Bool) (n : ℕ) where
     fails h e = failed asked (λ k. k) n i h a.left e ∙ listed
 
     pub all_pass : n ≤ i → true ≡ all asked (up_to n)
-    all_pass h = all-passed asked (λ k. k) n i h a.left ∙ listed
+    all_pass h = all_passed asked (λ k. k) n i h a.left ∙ listed
 
 -- two things asked of each at once are both asked of all
 pub both : (f g : ℕ → Bool) (l : List ℕ) → all (λ i. f i && g i) l ≡ all f l && all g l

@@ -8,18 +8,18 @@ use Prim.Native.Nat.{ℕ, zero, suc, ◌+◌, ◌≤◌, ◌<◌}
 use native.Mathlib.Omega.{arith}
 use borrow.Author.Tests.{ne_eqb}
 use lib.Dec.{T, eqb, leb, ltb, eqb→eq, leb→le, ltb→lt}
-use Rattle.model.specs.Searches.{countFrom}
+use Rattle.model.specs.Searches.{count_from}
 use Rattle.model.specs.Plan.{Plan, threads}
-use Rattle.model.specs.Records.{timerCount, Arm, Start, Period, Cancel, Create, Delay, Relinquish, End, Take, Give, Tick, Timing, Ready, Switch, Won, Lost, Yield, Expire, Late, Record, call, report, nobody, operandNumber, operandThread, allowed, isThread}
-use Rattle.model.proofs.Tests.{split, is_true, is_false, from-true, and_left, and_right, or_left, or_right, equal?}
+use Rattle.model.specs.Records.{timer_count, Arm, Start, Period, Cancel, Create, Delay, Relinquish, End, Take, Give, Tick, Timing, Ready, Switch, Won, Lost, Yield, Expire, Late, Record, call, report, nobody, operand_number, operand_thread, allowed, is_thread}
+use Rattle.model.proofs.Tests.{split, is_true, is_false, from_true, and_left, and_right, or_left, or_right, equal?}
 use Rattle.plan.specs.Bytes.{between}
-use Rattle.dump.specs.Layout.{recordOf, kind_of, operandOf}
-use Rattle.dump.specs.Questions.{is_call, isReport, kindAllowed, callFits, reportFits, operandFits}
+use Rattle.dump.specs.Layout.{record_of, kind_of, operand_of}
+use Rattle.dump.specs.Questions.{is_call, is_report, kind_allowed, call_fits, report_fits, operand_fits}
 
 -- the records of a call list
-abbrev pub isCallRecord : Record → Bool
-isCallRecord (call k) = true
-isCallRecord (report r) = false
+abbrev pub is_call_record : Record → Bool
+is_call_record (call k) = true
+is_call_record (report r) = false
 
 -- what is shown of each of the numbers from low to high holds of every number between
 module _ (P : ℕ → Type 0) where
@@ -27,7 +27,7 @@ module _ (P : ℕ → Type 0) where
   Each [] = Unit {0}
   Each (a ∷ l) = P a × Each l
 
-  each : (low n k : ℕ) → Each (countFrom low n) → low ≤ k → k < low + n → P k
+  each : (low n k : ℕ) → Each (count_from low n) → low ≤ k → k < low + n → P k
   each low zero k e h g = absurd (omega arith)
   each low (suc n) k e h g = go (equal? k low) (λ d. each (suc low) n k e.1 (omega arith) (omega arith))
     where
@@ -35,55 +35,55 @@ module _ (P : ℕ → Type 0) where
       go (inl q) f = subst P (sym q) e.0
       go (inr d) f = f d
 
-  each-between : (low n k : ℕ) → Each (countFrom low (suc n)) → T (between low (low + n) k) → P k
-  each-between low n k e t =
+  each_between : (low n k : ℕ) → Each (count_from low (suc n)) → T (between low (low + n) k) → P k
+  each_between low n k e t =
       each low (suc n) k e (leb→le low k (and_left (leb low k) _ t)) (omega (arith, leb→le k (low + n) (and_right (leb low k) _ t)))
 
   -- the kinds of calls, and all kinds
-  pub each-call : P 1 → P 2 → P 3 → P 4 → P 5 → P 6 → P 7 → P 8 → P 9 → P 10 → P 11 → (k : ℕ) → T (is_call k) → P k
-  each-call a b c d e f g h i j l k t = each-between 1 10 k (a, (b, (c, (d, (e, (f, (g, (h, (i, (j, (l, tt))))))))))) t
+  pub each_call : P 1 → P 2 → P 3 → P 4 → P 5 → P 6 → P 7 → P 8 → P 9 → P 10 → P 11 → (k : ℕ) → T (is_call k) → P k
+  each_call a b c d e f g h i j l k t = each_between 1 10 k (a, (b, (c, (d, (e, (f, (g, (h, (i, (j, (l, tt))))))))))) t
 
-  pub each-kind : P 1 → P 2 → P 3 → P 4 → P 5 → P 6 → P 7 → P 8 → P 9 → P 10 → P 11 → P 16 → P 17 → P 18 → P 19 → P 20 → P 21 → P 22 → (k : ℕ) → T (kindAllowed false k) → P k
-  each-kind a b c d e f g h i j l v w x y z r s k t = go (is_call k) refl t
+  pub each_kind : P 1 → P 2 → P 3 → P 4 → P 5 → P 6 → P 7 → P 8 → P 9 → P 10 → P 11 → P 16 → P 17 → P 18 → P 19 → P 20 → P 21 → P 22 → (k : ℕ) → T (kind_allowed false k) → P k
+  each_kind a b c d e f g h i j l v w x y z r s k t = go (is_call k) refl t
     where
-      go : (m : Bool) → is_call k ≡ m → T (m || isReport k) → P k
-      go true q u = each-call a b c d e f g h i j l k (from-true (is_call k) q)
-      go false q u = each-between 16 6 k (v, (w, (x, (y, (z, (r, (s, tt))))))) u
+      go : (m : Bool) → is_call k ≡ m → T (m || is_report k) → P k
+      go true q u = each_call a b c d e f g h i j l k (from_true (is_call k) q)
+      go false q u = each_between 16 6 k (v, (w, (x, (y, (z, (r, (s, tt))))))) u
 
 -- a kind is a byte
-pub kind-byte : (k : ℕ) → T (kindAllowed false k) → T (ltb k 256)
-kind-byte k t = each-kind (λ k. T (ltb k 256)) tt tt tt tt tt tt tt tt tt tt tt tt tt tt tt tt tt tt k t
+pub kind_byte : (k : ℕ) → T (kind_allowed false k) → T (ltb k 256)
+kind_byte k t = each_kind (λ k. T (ltb k 256)) tt tt tt tt tt tt tt tt tt tt tt tt tt tt tt tt tt tt k t
 
 -- From kind and operand to the record, and back.
 
-pub kind-back : (k n : ℕ) → T (kindAllowed false k) → kind_of (recordOf k n) ≡ k
-kind-back k n t = each-kind (λ k. kind_of (recordOf k n) ≡ k) refl refl refl refl refl refl refl refl refl refl refl refl refl refl refl refl refl refl k t
+pub kind_back : (k n : ℕ) → T (kind_allowed false k) → kind_of (record_of k n) ≡ k
+kind_back k n t = each_kind (λ k. kind_of (record_of k n) ≡ k) refl refl refl refl refl refl refl refl refl refl refl refl refl refl refl refl refl refl k t
 
 -- of a kind of call a call is made
-pub call_back : (k n : ℕ) → T (is_call k) → T (isCallRecord (recordOf k n))
-call_back k n t = each-call (λ k. T (isCallRecord (recordOf k n))) tt tt tt tt tt tt tt tt tt tt tt k t
+pub call_back : (k n : ℕ) → T (is_call k) → T (is_call_record (record_of k n))
+call_back k n t = each_call (λ k. T (is_call_record (record_of k n))) tt tt tt tt tt tt tt tt tt tt tt k t
 
 -- an operand fits only a kind that is allowed
-pub fits-kind : (threads sections k n : ℕ) → T (operandFits threads sections k n) → T (kindAllowed false k)
-fits-kind threads sections k n t = go (is_call k) (isReport k) t
+pub fits_kind : (threads sections k n : ℕ) → T (operand_fits threads sections k n) → T (kind_allowed false k)
+fits_kind threads sections k n t = go (is_call k) (is_report k) t
   where
-    go : (a b : Bool) → T (cond a (callFits threads sections k n) (cond b (reportFits threads k n) false)) → T (a || b)
+    go : (a b : Bool) → T (cond a (call_fits threads sections k n) (cond b (report_fits threads k n) false)) → T (a || b)
     go true b u = tt
     go false true u = tt
     go false false u = u
 
-thread-back : (n : ℕ) → operandNumber (operandThread n) ≡ n
-thread-back n = go (split (eqb n nobody))
+thread_back : (n : ℕ) → operand_number (operand_thread n) ≡ n
+thread_back n = go (split (eqb n nobody))
   where
-    go : T (eqb n nobody) ⊎ T (not (eqb n nobody)) → operandNumber (operandThread n) ≡ n
+    go : T (eqb n nobody) ⊎ T (not (eqb n nobody)) → operand_number (operand_thread n) ≡ n
     go (inl t) = rw (is_true (eqb n nobody) t) (sym (eqb→eq n nobody t))
     go (inr t) = rw (is_false (eqb n nobody) t)
 
-pub operand-back : (threads sections k n : ℕ) → T (operandFits threads sections k n) → operandOf (recordOf k n) ≡ n
-operand-back threads sections k n t =
-    each-kind (λ k. T (operandFits threads sections k n) → operandOf (recordOf k n) ≡ n)
-    same same nil nil same same nil same same same same same (λ u. thread-back n) same same same same same
-    k (fits-kind threads sections k n t) t
+pub operand_back : (threads sections k n : ℕ) → T (operand_fits threads sections k n) → operand_of (record_of k n) ≡ n
+operand_back threads sections k n t =
+    each_kind (λ k. T (operand_fits threads sections k n) → operand_of (record_of k n) ≡ n)
+    same same nil nil same same nil same same same same same (λ u. thread_back n) same same same same same
+    k (fits_kind threads sections k n t) t
   where
     same : {A : Type 0} → A → n ≡ n
     same u = refl
@@ -92,11 +92,11 @@ operand-back threads sections k n t =
     nil u = sym (eqb→eq n 0 u)
 
 -- a kind and an operand that pass question 8 make an allowed record
-pub allowed-back : (p : Plan) (k n : ℕ) → T (operandFits (threads p) p.sections k n) → T (allowed p (recordOf k n))
-allowed-back p k n t =
-    each-kind (λ k. T (operandFits (threads p) p.sections k n) → T (allowed p (recordOf k n)))
+pub allowed_back : (p : Plan) (k n : ℕ) → T (operand_fits (threads p) p.sections k n) → T (allowed p (record_of k n))
+allowed_back p k n t =
+    each_kind (λ k. T (operand_fits (threads p) p.sections k n) → T (allowed p (record_of k n)))
     same same always always same same always same same same same thread (switch (split (eqb n nobody))) thread thread thread same same
-    k (fits-kind (threads p) p.sections k n t) t
+    k (fits_kind (threads p) p.sections k n t) t
   where
     same : {A : Type 0} → A → A
     same u = u
@@ -111,102 +111,102 @@ allowed-back p k n t =
     thread : T (ltb n (threads p) || false) → T (ltb n (threads p))
     thread u = or_no (ltb n (threads p)) u
 
-    switch : T (eqb n nobody) ⊎ T (not (eqb n nobody)) → T (ltb n (threads p) || eqb n nobody) → T (isThread p (operandThread n))
+    switch : T (eqb n nobody) ⊎ T (not (eqb n nobody)) → T (ltb n (threads p) || eqb n nobody) → T (is_thread p (operand_thread n))
     switch (inl e) u = rw (is_true (eqb n nobody) e) tt
     switch (inr d) u = rw (is_false (eqb n nobody) d) (thread (rw (is_false (eqb n nobody) d) at u))
 
 -- From the record to kind and operand, and back. With 65535 threads at most, none has the number of nobody.
 
-pub record-back : (p : Plan) → threads p ≤ 65535 → (r : Record) → T (allowed p r) → recordOf (kind_of r) (operandOf r) ≡ r
-record-back p h (call (Create t)) a = refl
-record-back p h (call (Delay n)) a = refl
-record-back p h (call Relinquish) a = refl
-record-back p h (call End) a = refl
-record-back p h (call (Take s)) a = refl
-record-back p h (call (Give s)) a = refl
-record-back p h (call Tick) a = refl
-record-back p h (call (Timing (Arm i))) a = refl
-record-back p h (call (Timing (Start n))) a = refl
-record-back p h (call (Timing (Period n))) a = refl
-record-back p h (call (Timing (Cancel i))) a = refl
-record-back p h (report (Ready t)) a = refl
-record-back p h (report (Switch none)) a = refl
-record-back p h (report (Switch (some t))) a = rw (ne_eqb t nobody (λ e. omega (arith, ltb→lt t (threads p) a)))
-record-back p h (report (Won t)) a = refl
-record-back p h (report (Lost t)) a = refl
-record-back p h (report (Yield t)) a = refl
-record-back p h (report (Expire i)) a = refl
-record-back p h (report (Late n)) a = refl
+pub record_back : (p : Plan) → threads p ≤ 65535 → (r : Record) → T (allowed p r) → record_of (kind_of r) (operand_of r) ≡ r
+record_back p h (call (Create t)) a = refl
+record_back p h (call (Delay n)) a = refl
+record_back p h (call Relinquish) a = refl
+record_back p h (call End) a = refl
+record_back p h (call (Take s)) a = refl
+record_back p h (call (Give s)) a = refl
+record_back p h (call Tick) a = refl
+record_back p h (call (Timing (Arm i))) a = refl
+record_back p h (call (Timing (Start n))) a = refl
+record_back p h (call (Timing (Period n))) a = refl
+record_back p h (call (Timing (Cancel i))) a = refl
+record_back p h (report (Ready t)) a = refl
+record_back p h (report (Switch none)) a = refl
+record_back p h (report (Switch (some t))) a = rw (ne_eqb t nobody (λ e. omega (arith, ltb→lt t (threads p) a)))
+record_back p h (report (Won t)) a = refl
+record_back p h (report (Lost t)) a = refl
+record_back p h (report (Yield t)) a = refl
+record_back p h (report (Expire i)) a = refl
+record_back p h (report (Late n)) a = refl
 
 module _ (p : Plan) where
   -- the kind and the operand of an allowed record pass question 8
-  pub operand-fits : (r : Record) → T (allowed p r) → T (operandFits (threads p) p.sections (kind_of r) (operandOf r))
-  operand-fits (call (Create t)) a = a
-  operand-fits (call (Delay n)) a = a
-  operand-fits (call Relinquish) a = a
-  operand-fits (call End) a = a
-  operand-fits (call (Take s)) a = a
-  operand-fits (call (Give s)) a = a
-  operand-fits (call Tick) a = a
-  operand-fits (call (Timing (Arm i))) a = a
-  operand-fits (call (Timing (Start n))) a = a
-  operand-fits (call (Timing (Period n))) a = a
-  operand-fits (call (Timing (Cancel i))) a = a
-  operand-fits (report (Ready t)) a = or_left (ltb t (threads p)) false a
-  operand-fits (report (Switch none)) a = or_right (ltb nobody (threads p)) true a
-  operand-fits (report (Switch (some t))) a = or_left (ltb t (threads p)) (eqb t nobody) a
-  operand-fits (report (Won t)) a = or_left (ltb t (threads p)) false a
-  operand-fits (report (Lost t)) a = or_left (ltb t (threads p)) false a
-  operand-fits (report (Yield t)) a = or_left (ltb t (threads p)) false a
-  operand-fits (report (Expire i)) a = a
-  operand-fits (report (Late n)) a = a
+  pub operand_fits_lem : (r : Record) → T (allowed p r) → T (operand_fits (threads p) p.sections (kind_of r) (operand_of r))
+  operand_fits_lem (call (Create t)) a = a
+  operand_fits_lem (call (Delay n)) a = a
+  operand_fits_lem (call Relinquish) a = a
+  operand_fits_lem (call End) a = a
+  operand_fits_lem (call (Take s)) a = a
+  operand_fits_lem (call (Give s)) a = a
+  operand_fits_lem (call Tick) a = a
+  operand_fits_lem (call (Timing (Arm i))) a = a
+  operand_fits_lem (call (Timing (Start n))) a = a
+  operand_fits_lem (call (Timing (Period n))) a = a
+  operand_fits_lem (call (Timing (Cancel i))) a = a
+  operand_fits_lem (report (Ready t)) a = or_left (ltb t (threads p)) false a
+  operand_fits_lem (report (Switch none)) a = or_right (ltb nobody (threads p)) true a
+  operand_fits_lem (report (Switch (some t))) a = or_left (ltb t (threads p)) (eqb t nobody) a
+  operand_fits_lem (report (Won t)) a = or_left (ltb t (threads p)) false a
+  operand_fits_lem (report (Lost t)) a = or_left (ltb t (threads p)) false a
+  operand_fits_lem (report (Yield t)) a = or_left (ltb t (threads p)) false a
+  operand_fits_lem (report (Expire i)) a = a
+  operand_fits_lem (report (Late n)) a = a
 
   -- and the operand fits into two bytes
   module _ (h : threads p ≤ 65535) (g : p.sections ≤ 65536) where
-    thread-word : (t : ℕ) → T (ltb t (threads p)) → t < 65536
-    thread-word t a = omega (arith, ltb→lt t (threads p) a)
+    thread_word : (t : ℕ) → T (ltb t (threads p)) → t < 65536
+    thread_word t a = omega (arith, ltb→lt t (threads p) a)
 
-    section-word : (s : ℕ) → T (ltb s p.sections) → s < 65536
-    section-word s a = omega (arith, ltb→lt s p.sections a)
+    section_word : (s : ℕ) → T (ltb s p.sections) → s < 65536
+    section_word s a = omega (arith, ltb→lt s p.sections a)
 
-    timer-word : (i : ℕ) → T (ltb i timerCount) → i < 65536
-    timer-word i a = omega (arith, ltb→lt i timerCount a)
+    timer_word : (i : ℕ) → T (ltb i timer_count) → i < 65536
+    timer_word i a = omega (arith, ltb→lt i timer_count a)
 
-    ticks-word : (n : ℕ) → T (between 1 65535 n) → n < 65536
-    ticks-word n a = omega (arith, leb→le n 65535 (and_right (leb 1 n) (leb n 65535) a))
+    ticks_word : (n : ℕ) → T (between 1 65535 n) → n < 65536
+    ticks_word n a = omega (arith, leb→le n 65535 (and_right (leb 1 n) (leb n 65535) a))
 
-    pub operand-word : (r : Record) → T (allowed p r) → operandOf r < 65536
-    operand-word (call (Create t)) a = thread-word t a
-    operand-word (call (Delay n)) a = ticks-word n a
-    operand-word (call Relinquish) a = omega arith
-    operand-word (call End) a = omega arith
-    operand-word (call (Take s)) a = section-word s a
-    operand-word (call (Give s)) a = section-word s a
-    operand-word (call Tick) a = omega arith
-    operand-word (call (Timing (Arm i))) a = timer-word i a
-    operand-word (call (Timing (Start n))) a = ticks-word n a
-    operand-word (call (Timing (Period n))) a = omega (arith, leb→le n 65535 a)
-    operand-word (call (Timing (Cancel i))) a = timer-word i a
-    operand-word (report (Ready t)) a = thread-word t a
-    operand-word (report (Switch none)) a = omega arith
-    operand-word (report (Switch (some t))) a = thread-word t a
-    operand-word (report (Won t)) a = thread-word t a
-    operand-word (report (Lost t)) a = thread-word t a
-    operand-word (report (Yield t)) a = thread-word t a
-    operand-word (report (Expire i)) a = timer-word i a
-    operand-word (report (Late n)) a = omega (arith, leb→le n 65535 a)
+    pub operand_word : (r : Record) → T (allowed p r) → operand_of r < 65536
+    operand_word (call (Create t)) a = thread_word t a
+    operand_word (call (Delay n)) a = ticks_word n a
+    operand_word (call Relinquish) a = omega arith
+    operand_word (call End) a = omega arith
+    operand_word (call (Take s)) a = section_word s a
+    operand_word (call (Give s)) a = section_word s a
+    operand_word (call Tick) a = omega arith
+    operand_word (call (Timing (Arm i))) a = timer_word i a
+    operand_word (call (Timing (Start n))) a = ticks_word n a
+    operand_word (call (Timing (Period n))) a = omega (arith, leb→le n 65535 a)
+    operand_word (call (Timing (Cancel i))) a = timer_word i a
+    operand_word (report (Ready t)) a = thread_word t a
+    operand_word (report (Switch none)) a = omega arith
+    operand_word (report (Switch (some t))) a = thread_word t a
+    operand_word (report (Won t)) a = thread_word t a
+    operand_word (report (Lost t)) a = thread_word t a
+    operand_word (report (Yield t)) a = thread_word t a
+    operand_word (report (Expire i)) a = timer_word i a
+    operand_word (report (Late n)) a = omega (arith, leb→le n 65535 a)
 
 -- the kind of a call is a kind of call
-pub call-kind : (r : Record) → T (isCallRecord r) → T (is_call (kind_of r))
-call-kind (call (Create t)) c = tt
-call-kind (call (Delay n)) c = tt
-call-kind (call Relinquish) c = tt
-call-kind (call End) c = tt
-call-kind (call (Take s)) c = tt
-call-kind (call (Give s)) c = tt
-call-kind (call Tick) c = tt
-call-kind (call (Timing (Arm i))) c = tt
-call-kind (call (Timing (Start n))) c = tt
-call-kind (call (Timing (Period n))) c = tt
-call-kind (call (Timing (Cancel i))) c = tt
-call-kind (report r) c = absurd c
+pub call_kind_lem : (r : Record) → T (is_call_record r) → T (is_call (kind_of r))
+call_kind_lem (call (Create t)) c = tt
+call_kind_lem (call (Delay n)) c = tt
+call_kind_lem (call Relinquish) c = tt
+call_kind_lem (call End) c = tt
+call_kind_lem (call (Take s)) c = tt
+call_kind_lem (call (Give s)) c = tt
+call_kind_lem (call Tick) c = tt
+call_kind_lem (call (Timing (Arm i))) c = tt
+call_kind_lem (call (Timing (Start n))) c = tt
+call_kind_lem (call (Timing (Period n))) c = tt
+call_kind_lem (call (Timing (Cancel i))) c = tt
+call_kind_lem (report r) c = absurd c

@@ -13,15 +13,15 @@ use Rattle.model.specs.Searches.{all, up_to}
 use Rattle.model.specs.Plan.{Plan, threads}
 use Rattle.model.specs.Records.{Tick, Record, call, allowed}
 use Rattle.model.proofs.Tests.{split, and_left, and_right, and_both, equal?}
-use Rattle.model.proofs.Searches.{all_from, all-at, in-upTo}
+use Rattle.model.proofs.Searches.{all_from, all_at, in_up_to}
 use Rattle.plan.specs.Words.{byte}
 use Rattle.model.proofs.Loops.{begin, listed, length-listed}
-use Rattle.dump.specs.Layout.{recordCount, kindAt, operand_at, recordAt, decode, part, kind_of, operandOf, encode}
-use Rattle.dump.specs.Questions.{operandFits, refusal}
+use Rattle.dump.specs.Layout.{record_count, kind_at, operand_at, record_at, decode, part, kind_of, operand_of, encode}
+use Rattle.dump.specs.Questions.{operand_fits, refusal}
 use Rattle.dump.proofs.Words.{Stands, word_stands}
-use Rattle.dump.proofs.Codec.{isCallRecord, kind-back, call_back, fits-kind, operand-back, allowed-back}
+use Rattle.dump.proofs.Codec.{is_call_record, kind_back, call_back, fits_kind, operand_back, allowed_back}
 use Rattle.dump.proofs.Answers.{Accepted, accepted}
-use Rattle.dump.proofs.Encoded.{nth, encode-length, count-stands, encode-kind, operand-stands}
+use Rattle.dump.proofs.Encoded.{nth, encode-length, count_stands, encode_kind, operand_stands}
 
 -- a test passed by each of a list that is made of another
 all_made : {A B : Type 0} (f : B → Bool) (g : A → B) (l : List A) → T (all (λ a. f (g a)) l) → T (all f (map g l))
@@ -29,33 +29,33 @@ all_made f g [] t = tt
 all_made f g (a ∷ l) t = and_both (f (g a)) _ (and_left (f (g a)) _ t) (all_made f g l (and_right (f (g a)) _ t))
 
 -- past the end too, where the byte counts as 0
-byte-below : (bytes : List ℕ) → T (all (λ b. ltb b 256) bytes) → (i : ℕ) → byte bytes i < 256
-byte-below [] t i = omega arith
-byte-below (b ∷ bytes) t zero = ltb→lt b 256 (and_left (ltb b 256) _ t)
-byte-below (b ∷ bytes) t (suc i) = byte-below bytes (and_right (ltb b 256) _ t) i
+byte_below : (bytes : List ℕ) → T (all (λ b. ltb b 256) bytes) → (i : ℕ) → byte bytes i < 256
+byte_below [] t i = omega arith
+byte_below (b ∷ bytes) t zero = ltb→lt b 256 (and_left (ltb b 256) _ t)
+byte_below (b ∷ bytes) t (suc i) = byte_below bytes (and_right (ltb b 256) _ t) i
 
 module _ (bytes : List ℕ) where
-  pub decode-length : length (decode bytes) ≡ recordCount bytes
-  decode-length = length-listed (recordAt bytes) (recordCount bytes)
+  pub decode-length : length (decode bytes) ≡ record_count bytes
+  decode-length = length-listed (record_at bytes) (record_count bytes)
 
-  decode-nth : (i : ℕ) → i < recordCount bytes → nth (decode bytes) i ≡ recordAt bytes i
-  decode-nth i h = listed (recordAt bytes) (recordCount bytes) i (call Tick) h
+  decode-nth : (i : ℕ) → i < record_count bytes → nth (decode bytes) i ≡ record_at bytes i
+  decode-nth i h = listed (record_at bytes) (record_count bytes) i (call Tick) h
 
   -- the part from the first record on and before N is the whole
-  pub part-all : part bytes 0 (recordCount bytes) ≡ decode bytes
-  part-all = begin (map (recordAt bytes)) (recordCount bytes)
+  pub part_all : part bytes 0 (record_count bytes) ≡ decode bytes
+  part_all = begin (map (record_at bytes)) (record_count bytes)
 
 -- the records are allowed, and those of a call list are calls
 
-pub decoded-allowed : (p : Plan) (calls_only : Bool) (bytes : List ℕ) → refusal (threads p) p.sections calls_only bytes ≡ none → T (all (allowed p) (decode bytes))
-decoded-allowed p calls_only bytes e =
-    all_made (allowed p) (recordAt bytes) (up_to (recordCount bytes))
-    (all_from _ _ (λ i. allowed-back p (kindAt bytes i) (operand_at bytes i)) (up_to (recordCount bytes)) (accepted (threads p) p.sections calls_only bytes e).operands)
+pub decoded_allowed : (p : Plan) (calls_only : Bool) (bytes : List ℕ) → refusal (threads p) p.sections calls_only bytes ≡ none → T (all (allowed p) (decode bytes))
+decoded_allowed p calls_only bytes e =
+    all_made (allowed p) (record_at bytes) (up_to (record_count bytes))
+    (all_from _ _ (λ i. allowed_back p (kind_at bytes i) (operand_at bytes i)) (up_to (record_count bytes)) (accepted (threads p) p.sections calls_only bytes e).operands)
 
-pub decoded-calls : (p : Plan) (bytes : List ℕ) → refusal (threads p) p.sections true bytes ≡ none → T (all isCallRecord (decode bytes))
-decoded-calls p bytes e =
-    all_made isCallRecord (recordAt bytes) (up_to (recordCount bytes))
-    (all_from _ _ (λ i. call_back (kindAt bytes i) (operand_at bytes i)) (up_to (recordCount bytes)) (accepted (threads p) p.sections true bytes e).kinds)
+pub decoded_calls : (p : Plan) (bytes : List ℕ) → refusal (threads p) p.sections true bytes ≡ none → T (all is_call_record (decode bytes))
+decoded_calls p bytes e =
+    all_made is_call_record (record_at bytes) (up_to (record_count bytes))
+    (all_from _ _ (λ i. call_back (kind_at bytes i) (operand_at bytes i)) (up_to (record_count bytes)) (accepted (threads p) p.sections true bytes e).kinds)
 
 -- lists of bytes with N records are the same if they have the same N, kinds and operands
 module _ (x y : List ℕ) where
@@ -86,19 +86,19 @@ module _ (x y : List ℕ) where
           go (inr t) = operand (nltb→le j n t) (equal? ((j - n) % 2) 0)
 
 -- the bytes are written back
-pub encode-decode : (threads sections : ℕ) (calls_only : Bool) (bytes : List ℕ) → T (all (λ b. ltb b 256) bytes) → refusal threads sections calls_only bytes ≡ none
+pub encode_decode : (threads sections : ℕ) (calls_only : Bool) (bytes : List ℕ) → T (all (λ b. ltb b 256) bytes) → refusal threads sections calls_only bytes ≡ none
     → encode (decode bytes) ≡ bytes
-encode-decode threads sections calls_only bytes t e =
+encode_decode threads sections calls_only bytes t e =
     same_bytes (encode rs) bytes n (omega (arith, encode-length rs, decode-length bytes)) size
-    (alike (encode rs) bytes (subst (λ m. Stands (encode rs) 0 m) (decode-length bytes) (count-stands rs)) (word_stands bytes 0 (byte-below bytes t 0)))
+    (alike (encode rs) bytes (subst (λ m. Stands (encode rs) 0 m) (decode-length bytes) (count_stands rs)) (word_stands bytes 0 (byte_below bytes t 0)))
     kinds
-    (λ i h. alike (encode rs) bytes (operand i h) (word_stands bytes (2 + n + 2 * i) (byte-below bytes t (2 + n + 2 * i))))
+    (λ i h. alike (encode rs) bytes (operand i h) (word_stands bytes (2 + n + 2 * i) (byte_below bytes t (2 + n + 2 * i))))
   where
     rs : List Record
     rs = decode bytes
 
     n : ℕ
-    n = recordCount bytes
+    n = record_count bytes
 
     yes : Accepted threads sections calls_only bytes
     yes = accepted threads sections calls_only bytes e
@@ -106,20 +106,20 @@ encode-decode threads sections calls_only bytes t e =
     size : length bytes ≡ 2 + 3 * n
     size = eqb→eq (length bytes) (2 + 3 * n) yes.size
 
-    fits : (i : ℕ) → i < n → T (operandFits threads sections (kindAt bytes i) (operand_at bytes i))
-    fits i h = all-at (λ i. operandFits threads sections (kindAt bytes i) (operand_at bytes i)) (up_to n) yes.operands (in-upTo n i h)
+    fits : (i : ℕ) → i < n → T (operand_fits threads sections (kind_at bytes i) (operand_at bytes i))
+    fits i h = all_at (λ i. operand_fits threads sections (kind_at bytes i) (operand_at bytes i)) (up_to n) yes.operands (in_up_to n i h)
 
     within : (i : ℕ) → i < n → i < length rs
     within i h = omega (arith, decode-length bytes)
 
     kinds : (i : ℕ) → i < n → byte (encode rs) (2 + i) ≡ byte bytes (2 + i)
     kinds i h =
-        encode-kind rs i (within i h) ∙ ap kind_of (decode-nth bytes i h)
-        ∙ kind-back (kindAt bytes i) (operand_at bytes i) (fits-kind threads sections (kindAt bytes i) (operand_at bytes i) (fits i h))
+        encode_kind rs i (within i h) ∙ ap kind_of (decode-nth bytes i h)
+        ∙ kind_back (kind_at bytes i) (operand_at bytes i) (fits_kind threads sections (kind_at bytes i) (operand_at bytes i) (fits i h))
 
     operand : (i : ℕ) → i < n → Stands (encode rs) (2 + n + 2 * i) (operand_at bytes i)
     operand i h =
         subst (λ m. Stands (encode rs) (2 + m + 2 * i) (operand_at bytes i)) (decode-length bytes)
         (subst (λ m. Stands (encode rs) (2 + length rs + 2 * i) m)
-        (ap operandOf (decode-nth bytes i h) ∙ operand-back threads sections (kindAt bytes i) (operand_at bytes i) (fits i h))
-        (operand-stands rs i (within i h)))
+        (ap operand_of (decode-nth bytes i h) ∙ operand_back threads sections (kind_at bytes i) (operand_at bytes i) (fits i h))
+        (operand_stands rs i (within i h)))

@@ -32,22 +32,22 @@ abbrev pub PlaceAt : Lfts 1 → RattleType
 PlaceAt κs = T.the_row (named_lft 1 0 tt κs)
 
 -- the machine values that a place has, and that they can be no others
-abbrev pub placeVals : Lfts 1 → Place → List Val
-placeVals κs = LL.vals (T.the_type (named_lft 1 0 tt κs)) (T'.the_laws (named_lft 1 0 tt κs))
+abbrev pub place_vals : Lfts 1 → Place → List Val
+place_vals κs = LL.vals (T.the_type (named_lft 1 0 tt κs)) (T'.the_laws (named_lft 1 0 tt κs))
 
-pub place-tells : (κs : Lfts 1) → Tells (PlaceAt κs) (Is (PlaceAt κs)) (placeVals κs)
-place-tells κs = LL.tells (T.the_type (named_lft 1 0 tt κs)) (T'.the_laws (named_lft 1 0 tt κs))
+pub place_tells : (κs : Lfts 1) → Tells (PlaceAt κs) (Is (PlaceAt κs)) (place_vals κs)
+place_tells κs = LL.tells (T.the_type (named_lft 1 0 tt κs)) (T'.the_laws (named_lft 1 0 tt κs))
 
 -- they have the types that the signature says
 abbrev pub TypedPlace : Place → Type 0
 TypedPlace d = Holds (has_ty (T'.mir (named 0)) (T'.lowered d)) × WT (T'.lowered d)
 
-pub place-typed : {M : Type 1} {𝓤 : Ura M} (𝓛 : Logic 𝓤) (κs : Lfts 1) (d : Place) → Is (PlaceAt κs) d (placeVals κs d) → TypedPlace d
-place-typed 𝓛 κs d is = ((LL.lawful (T.the_type (named_lft 1 0 tt κs)) (T'.the_laws (named_lft 1 0 tt κs)) 𝓛).typed d _ is).0
+pub place_typed : {M : Type 1} {𝓤 : Ura M} (𝓛 : Logic 𝓤) (κs : Lfts 1) (d : Place) → Is (PlaceAt κs) d (place_vals κs d) → TypedPlace d
+place_typed 𝓛 κs d is = ((LL.lawful (T.the_type (named_lft 1 0 tt κs)) (T'.the_laws (named_lft 1 0 tt κs)) 𝓛).typed d _ is).0
 
 -- the machine value of the dump that a place holds
-abbrev pub dumpVal : Place → Val
-dumpVal d = slice_val d.bytes.ref_ptr (length d.bytes.now)
+abbrev pub dump_val : Place → Val
+dump_val d = slice_val d.bytes.ref_ptr (length d.bytes.now)
 
 -- what a place owns
 abbrev pub OwnPlace : Lft → Place → Fml
@@ -60,7 +60,7 @@ OwnBoth κ d running = owns (PlaceAt (κ, tt) ∷ usize ∷ []) (d, (running, tt
 -- what its dump, its number and the running place own, as three
 abbrev pub OwnParts : Lft → Place → ℕ → Fml
 OwnParts κ d running =
-    owns (ShrSlice (named 0) κ u8 ∷ usize ∷ usize ∷ []) (d.bytes, (d.number, (running, tt))) (dumpVal d ∷ [], (vint w64 d.number ∷ [], (vint w64 running ∷ [], tt)))
+    owns (ShrSlice (named 0) κ u8 ∷ usize ∷ usize ∷ []) (d.bytes, (d.number, (running, tt))) (dump_val d ∷ [], (vint w64 d.number ∷ [], (vint w64 running ∷ [], tt)))
 
 module _ {M : Type 1} {𝓤 : Ura M} (𝓛 : Logic 𝓤) (κ : Lft) (q : Share) (d : Place) (running : ℕ) where
   open 𝓛 use {A}

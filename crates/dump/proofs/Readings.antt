@@ -10,10 +10,10 @@ use Rattle.model.specs.Records as model
 use Rattle.model.proofs.Tests.{split, is_false}
 use Rattle.machine.specs.Records.{Named}
 use Rattle.machine.specs.declared.record.Record.TheVariants.{Report}
-use Rattle.dump.specs.Layout.{recordOf}
-use Rattle.dump.specs.Questions.{is_call, kindAllowed, operandFits}
+use Rattle.dump.specs.Layout.{record_of}
+use Rattle.dump.specs.Questions.{is_call, kind_allowed, operand_fits}
 use Rattle.dump.specs.Reading.{Reads}
-use Rattle.dump.proofs.Codec.{fits-kind, each-call, each-kind}
+use Rattle.dump.proofs.Codec.{fits_kind, each_call, each_kind}
 
 -- an operand below 16 is its own low byte
 pub low : (n : ℕ) → T (ltb n 16) → n % 256 ≡ n
@@ -27,9 +27,9 @@ module _ (n : ℕ) where
   abbrev Fits : ℕ → Type 0
   Fits k = is_call k ≡ false → Reads (Report (record { kind = k; spare = 0; operand = n })) k n
 
-  pub reports : (k : ℕ) → T (kindAllowed false k) → Fits k
+  pub reports : (k : ℕ) → T (kind_allowed false k) → Fits k
   reports k t =
-      each-kind Fits
+      each_kind Fits
       called called called called called called called called called called called
       (λ c. record { same = refl; kind' = record { least = omega arith; most = omega arith } })
       (λ c. record { same = refl; kind' = record { least = omega arith; most = omega arith } })
@@ -42,16 +42,16 @@ module _ (n : ℕ) where
 
 -- the call of a kind below 16, with an operand
 abbrev CallOf : (n k : ℕ) → Type 0
-CallOf n k = (c : model.Call) × (recordOf k n ≡ model.call c) × (model.callKind c ≡ k)
+CallOf n k = (c : model.Call) × (record_of k n ≡ model.call c) × (model.call_kind c ≡ k)
 
-module _ (k n : ℕ) (t : T (operandFits 16 16 k n)) where
+module _ (k n : ℕ) (t : T (operand_fits 16 16 k n)) where
   -- a kind from 16 on is a report's
-  report-reads : 16 ≤ k → Reads (Report (record { kind = k; spare = 0; operand = n })) k n
-  report-reads h = reports n k (fits-kind 16 16 k n t) (go (split (is_call k)))
+  report_reads : 16 ≤ k → Reads (Report (record { kind = k; spare = 0; operand = n })) k n
+  report_reads h = reports n k (fits_kind 16 16 k n t) (go (split (is_call k)))
     where
       past : (j : ℕ) → T (is_call j) → 16 ≤ j → ⊥
       past j c =
-          each-call (λ i. 16 ≤ i → ⊥)
+          each_call (λ i. 16 ≤ i → ⊥)
           (λ i. omega arith) (λ i. omega arith) (λ i. omega arith) (λ i. omega arith) (λ i. omega arith) (λ i. omega arith) (λ i. omega arith)
           (λ i. omega arith) (λ i. omega arith) (λ i. omega arith) (λ i. omega arith)
           j c
@@ -61,9 +61,9 @@ module _ (k n : ℕ) (t : T (operandFits 16 16 k n)) where
       go (inr c) = is_false (is_call k) c
 
   -- one below is a call's
-  call-reads : k < 16 → CallOf n k
-  call-reads h =
-      each-kind (λ j. j < 16 → CallOf n j)
+  call_reads : k < 16 → CallOf n k
+  call_reads h =
+      each_kind (λ j. j < 16 → CallOf n j)
       (λ i. (model.Create n, refl, refl))
       (λ i. (model.Delay n, refl, refl))
       (λ i. (model.Relinquish, refl, refl))
@@ -76,11 +76,11 @@ module _ (k n : ℕ) (t : T (operandFits 16 16 k n)) where
       (λ i. (model.Timing (model.Period n), refl, refl))
       (λ i. (model.Timing (model.Cancel n), refl, refl))
       (λ i. absurd (omega arith)) (λ i. absurd (omega arith)) (λ i. absurd (omega arith)) (λ i. absurd (omega arith)) (λ i. absurd (omega arith)) (λ i. absurd (omega arith)) (λ i. absurd (omega arith))
-      k (fits-kind 16 16 k n t) h
+      k (fits_kind 16 16 k n t) h
 
-  pub names : Named k n (recordOf k n)
+  pub names : Named k n (record_of k n)
   names = go (split (ltb k 16))
     where
-      go : T (ltb k 16) ⊎ T (not (ltb k 16)) → Named k n (recordOf k n)
-      go (inl b) = inl (call-reads (ltb→lt k 16 b))
-      go (inr b) = let r = report-reads (nltb→le k 16 b) in inr (r.kind', sym r.same)
+      go : T (ltb k 16) ⊎ T (not (ltb k 16)) → Named k n (record_of k n)
+      go (inl b) = inl (call_reads (ltb→lt k 16 b))
+      go (inr b) = let r = report_reads (nltb→le k 16 b) in inr (r.kind', sym r.same)

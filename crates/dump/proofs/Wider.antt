@@ -5,21 +5,21 @@ use native.Mathlib.Omega.{arith}
 use borrow.Author.Tests.{lt-ltb}
 use lib.Dec.{T, ltb, eqb, ltb→lt}
 use Rattle.model.specs.Records.{nobody}
-use Rattle.model.proofs.Tests.{from-true, or_left, or_right}
-use Rattle.dump.specs.Questions.{operandFits}
-use Rattle.dump.proofs.Codec.{each-kind, fits-kind}
+use Rattle.model.proofs.Tests.{from_true, or_left, or_right}
+use Rattle.dump.specs.Questions.{operand_fits}
+use Rattle.dump.proofs.Codec.{each_kind, fits_kind}
 
-pub wider : (threads sections more further k n : ℕ) → threads ≤ more → sections ≤ further → T (operandFits threads sections k n) → T (operandFits more further k n)
+pub wider : (threads sections more further k n : ℕ) → threads ≤ more → sections ≤ further → T (operand_fits threads sections k n) → T (operand_fits more further k n)
 wider threads sections more further k n h g t =
-    each-kind (λ k. T (operandFits threads sections k n) → T (operandFits more further k n))
+    each_kind (λ k. T (operand_fits threads sections k n) → T (operand_fits more further k n))
     thread same same same section section same same same same same (report false) (report (eqb n nobody)) (report false) (report false) (report false) same same
-    k (fits-kind threads sections k n t) t
+    k (fits_kind threads sections k n t) t
   where
     same : {A : Type 0} → A → A
     same u = u
 
     below : (a b : ℕ) → a ≤ b → T (ltb n a) → T (ltb n b)
-    below a b i u = let l = ltb→lt n a u in from-true (ltb n b) (lt-ltb n b (omega arith))
+    below a b i u = let l = ltb→lt n a u in from_true (ltb n b) (lt-ltb n b (omega arith))
 
     thread : T (ltb n threads) → T (ltb n more)
     thread u = below threads more h u

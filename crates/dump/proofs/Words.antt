@@ -7,22 +7,22 @@ use lib.Dec.{T, ltb, lt→ltb}
 use Rattle.model.specs.Searches.{all}
 use Rattle.model.proofs.Tests.{and_both}
 use Rattle.plan.specs.Words.{byte, word}
-use Rattle.dump.specs.Layout.{twoBytes}
+use Rattle.dump.specs.Layout.{two_bytes}
 
 -- from a number to two bytes, and back: what stands behind them does not matter
-pub two_bytes : (n : ℕ) (rest : List ℕ) → n < 65536 → word (twoBytes n ++ rest) 0 ≡ n
-two_bytes n rest h = omega arith
+pub two_bytes_lem : (n : ℕ) (rest : List ℕ) → n < 65536 → word (two_bytes n ++ rest) 0 ≡ n
+two_bytes_lem n rest h = omega arith
 
 -- from two bytes to a number, and back
-pub bytes-two : (a b : ℕ) → a < 256 → b < 256 → twoBytes (a + 256 * b) ≡ a ∷ b ∷ []
-bytes-two a b h g =
+pub bytes_two : (a b : ℕ) → a < 256 → b < 256 → two_bytes (a + 256 * b) ≡ a ∷ b ∷ []
+bytes_two a b h g =
     let low : (a + 256 * b) % 256 ≡ a = omega arith in
     let high : (a + 256 * b) / 256 ≡ b = omega arith in
     ap (λ x. x ∷ (a + 256 * b) / 256 ∷ []) low ∙ ap (λ y. a ∷ y ∷ []) high
 
 -- the two bytes are bytes
-pub two-are-bytes : (n : ℕ) → n < 65536 → T (all (λ b. ltb b 256) (twoBytes n))
-two-are-bytes n h =
+pub two_are_bytes : (n : ℕ) → n < 65536 → T (all (λ b. ltb b 256) (two_bytes n))
+two_are_bytes n h =
     and_both (ltb (n % 256) 256) _ (lt→ltb (n % 256) 256 (omega arith)) (and_both (ltb (n / 256) 256) _ (lt→ltb (n / 256) 256 (omega arith)) tt)
 
 -- at that place stands that number

@@ -2,7 +2,7 @@
 use Rattle.std.specs.Prelude.{◌≡◌, Bool, false, cond, ◌&&◌, List, ℕ, ◌<◌, min, eqb, leb, ltb, get_or}
 use Rattle.model.specs.Records.{nobody}
 use Rattle.dump.specs.declared.questions.Bounds.{Bounds}
-use Rattle.dump.specs.Questions.{kindAllowed, operandFits}
+use Rattle.dump.specs.Questions.{kind_allowed, operand_fits}
 
 -- below end from low on, and else 65535 where nobody may be named
 abbrev pub admits : Bounds → (operand : ℕ) → Bool
@@ -17,9 +17,9 @@ abbrev pub Exact : Bounds → (fits : (operand : ℕ) → Bool) → Type 0
 Exact b fits = (n : ℕ) → n < 65536 → admits b n ≡ fits n
 
 -- what passes questions 7 and 8 of a record
-abbrev pub recordFits : (threads sections : ℕ) (calls_only : Bool) (kind operand : ℕ) → Bool
-recordFits threads sections calls_only k n = kindAllowed calls_only k && operandFits threads sections k n
+abbrev pub record_fits : (threads sections : ℕ) (calls_only : Bool) (kind operand : ℕ) → Bool
+record_fits threads sections calls_only k n = kind_allowed calls_only k && operand_fits threads sections k n
 
 -- bounds that admit just this, for each kind below a number
 abbrev pub Tabled : (threads sections : ℕ) (calls_only : Bool) (kinds : ℕ) → List Bounds → Type 0
-Tabled threads sections calls_only kinds table = (k : ℕ) → k < kinds → Exact (get_or table k (below 0)) (recordFits threads sections calls_only k)
+Tabled threads sections calls_only kinds table = (k : ℕ) → k < kinds → Exact (get_or table k (below 0)) (record_fits threads sections calls_only k)

@@ -1,6 +1,6 @@
 // A reading place in a dump or call list, with a running place (document 02) beside it: thin functions over plain ones.
 ghost use Rattle.std.specs.Prelude.{◌≡◌, ◌<◌};
-ghost use Rattle.dump.specs.Layout.{recordCount, kindAt, operand_at, runningPlace};
+ghost use Rattle.dump.specs.Layout.{record_count, kind_at, operand_at, running_place};
 ghost use Rattle.dump.specs.Questions.{Whole};
 
 use crate::layout::{Entry, kind_at};
@@ -15,8 +15,8 @@ pub struct Place<'a> {
 
 // The numbers of record i, its operand at the running place.
 fn numbers_at(bytes: &[u8], i: usize, running: usize) -> Entry
-    requires { Whole bytes.now × (i < recordCount bytes.now) × (running ≡ runningPlace (recordCount bytes.now) i) }
-    ensures { (result.kind ≡ kindAt bytes.now i) × (result.operand ≡ operand_at bytes.now i) }
+    requires { Whole bytes.now × (i < record_count bytes.now) × (running ≡ running_place (record_count bytes.now) i) }
+    ensures { (result.kind ≡ kind_at bytes.now i) × (result.operand ≡ operand_at bytes.now i) }
 {
     Entry {
         kind: kind_at(bytes, i),
@@ -33,16 +33,16 @@ pub fn place_at<'a>(bytes: &'a [u8], number: usize) -> Place<'a>
 
 // The next record.
 pub fn read<'a>(place: Place<'a>, running: usize) -> Entry
-    requires { Whole place.bytes.now × (place.number < recordCount place.bytes.now) × (running ≡ runningPlace (recordCount place.bytes.now) place.number) }
-    ensures { (result.kind ≡ kindAt place.entry.bytes.now place.entry.number) × (result.operand ≡ operand_at place.entry.bytes.now place.entry.number) }
+    requires { Whole place.bytes.now × (place.number < record_count place.bytes.now) × (running ≡ running_place (record_count place.bytes.now) place.number) }
+    ensures { (result.kind ≡ kind_at place.entry.bytes.now place.entry.number) × (result.operand ≡ operand_at place.entry.bytes.now place.entry.number) }
 {
     numbers_at(place.bytes, place.number, running)
 }
 
 // Record i, read through a reading place.
 pub fn entry_at(bytes: &[u8], i: usize, running: usize) -> Entry
-    requires { Whole bytes.now × (i < recordCount bytes.now) × (running ≡ runningPlace (recordCount bytes.now) i) }
-    ensures { (result.kind ≡ kindAt bytes.now i) × (result.operand ≡ operand_at bytes.now i) }
+    requires { Whole bytes.now × (i < record_count bytes.now) × (running ≡ running_place (record_count bytes.now) i) }
+    ensures { (result.kind ≡ kind_at bytes.now i) × (result.operand ≡ operand_at bytes.now i) }
 {
     read(place_at(bytes, i), running)
 }

@@ -1,8 +1,8 @@
 // Questions 5 to 8.
 ghost use Rattle.std.specs.Prelude.{◌≡◌, ◌&&◌, ◌≤◌, length};
 ghost use Rattle.plan.specs.Bytes.{between, number};
-ghost use Rattle.dump.specs.Questions.{kindAllowed, callFits, reportFits, operandFits, hasCount, hasLength, hasKinds, hasOperands, refusal, Whole};
-ghost use Rattle.dump.specs.Operands.{below, admits, Exact, recordFits, Tabled};
+ghost use Rattle.dump.specs.Questions.{kind_allowed, call_fits, report_fits, operand_fits, has_count, has_length, has_kinds, has_operands, refusal, Whole};
+ghost use Rattle.dump.specs.Operands.{below, admits, Exact, record_fits, Tabled};
 
 use crate::layout::{first_operand, kind_at, record_count};
 use crate::place::entry_at;
@@ -13,7 +13,7 @@ pub const MOST_RECORDS: usize = 20000;
 
 // Whether there is such a kind; a call list has calls only.
 pub fn kind_allowed(list: bool, kind: u8) -> bool
-    ensures { result ≡ kindAllowed list kind }
+    ensures { result ≡ kind_allowed list kind }
 {
     match kind {
         1..=11 => true,
@@ -68,7 +68,7 @@ impl Bounds {
 
 // The operand rule of a call.
 fn call_bounds(threads: usize, sections: usize, kind: u8) -> Bounds
-    ensures { Exact result (callFits threads sections kind) }
+    ensures { Exact result (call_fits threads sections kind) }
 {
     match kind {
         1 => Bounds::below(threads),
@@ -84,7 +84,7 @@ fn call_bounds(threads: usize, sections: usize, kind: u8) -> Bounds
 
 // The operand rule of a report.
 fn report_bounds(threads: usize, kind: u8) -> Bounds
-    ensures { Exact result (reportFits threads kind) }
+    ensures { Exact result (report_fits threads kind) }
 {
     if kind == 21 {
         return Bounds::below(TIMERS);
@@ -99,7 +99,7 @@ fn report_bounds(threads: usize, kind: u8) -> Bounds
 
 // The operand rule of a record, by its kind.
 fn bounds_of(threads: usize, sections: usize, kind: u8) -> Bounds
-    ensures { Exact result (operandFits threads sections kind) }
+    ensures { Exact result (operand_fits threads sections kind) }
 {
     match kind {
         1..=11 => call_bounds(threads, sections, kind),
@@ -110,14 +110,14 @@ fn bounds_of(threads: usize, sections: usize, kind: u8) -> Bounds
 
 // Whether an operand is allowed for its kind.
 pub fn operand_fits(threads: usize, sections: usize, kind: u8, operand: u16) -> bool
-    ensures { result ≡ operandFits threads sections kind operand }
+    ensures { result ≡ operand_fits threads sections kind operand }
 {
     bounds_of(threads, sections, kind).admits(operand)
 }
 
 // What passes questions 7 and 8 of a record, by its kind: a kind that is not allowed admits no operand.
 fn bounds_for(threads: usize, sections: usize, list: bool, kind: u8) -> Bounds
-    ensures { Exact result (recordFits threads sections list kind) }
+    ensures { Exact result (record_fits threads sections list kind) }
 {
     if kind_allowed(list, kind) {
         bounds_of(threads, sections, kind)
@@ -143,7 +143,7 @@ fn bounds_table(threads: usize, sections: usize, list: bool) -> [Bounds; 32]
 
 // 5: Has it 2 bytes or more, and N at most 20,000?
 fn has_count(bytes: &[u8]) -> bool
-    ensures { result ≡ hasCount bytes.now }
+    ensures { result ≡ has_count bytes.now }
 {
     if bytes.len() < 2 {
         return false;
@@ -154,7 +154,7 @@ fn has_count(bytes: &[u8]) -> bool
 // 6: Is it exactly 2 + 3N long?
 fn has_length(bytes: &[u8]) -> bool
     requires { 2 ≤ length bytes.now }
-    ensures { result ≡ hasLength bytes.now }
+    ensures { result ≡ has_length bytes.now }
 {
     let n = record_count(bytes);
     bytes.len() == 2 + 3 * n
@@ -163,7 +163,7 @@ fn has_length(bytes: &[u8]) -> bool
 // 7: Is every kind allowed?
 fn has_kinds(list: bool, bytes: &[u8]) -> bool
     requires { Whole bytes.now }
-    ensures { result ≡ hasKinds list bytes.now }
+    ensures { result ≡ has_kinds list bytes.now }
 {
     let n = record_count(bytes);
     let mut i: usize = 0;
@@ -180,7 +180,7 @@ fn has_kinds(list: bool, bytes: &[u8]) -> bool
 // no pattern, and a branch on them is often guessed wrong.
 fn has_records(threads: usize, sections: usize, list: bool, bytes: &[u8]) -> bool
     requires { Whole bytes.now }
-    ensures { result ≡ hasKinds list bytes.now && hasOperands threads sections bytes.now }
+    ensures { result ≡ has_kinds list bytes.now && has_operands threads sections bytes.now }
 {
     let n = record_count(bytes);
     let table = bounds_table(threads, sections, list);

@@ -1,6 +1,6 @@
 // The machine's records, read from their two numbers.
 ghost use Rattle.std.specs.Prelude.{T};
-ghost use Rattle.dump.specs.Questions.{operandFits};
+ghost use Rattle.dump.specs.Questions.{operand_fits};
 ghost use Rattle.dump.specs.Reading.{Reads};
 
 use crate::layout::Entry;
@@ -10,7 +10,7 @@ use machine::record::Record;
 
 // The record of a kind and an operand that questions 7 and 8 let pass.
 pub fn record_of(entry: Entry) -> Record
-    requires { T (operandFits 16 16 entry.kind entry.operand) }
+    requires { T (operand_fits 16 16 entry.kind entry.operand) }
     ensures { Reads result entry.kind entry.operand }
 {
     let kind = entry.kind;

@@ -3,8 +3,8 @@
 ghost use Rattle.std.specs.Prelude.{◌≡◌, length};
 ghost use Rattle.monitor.specs.Answers.{check};
 ghost use Rattle.kernel.specs.Answers.{answer, output};
-ghost use Rattle.exports.specs.Numbers.{verdictNumber, verdictAt, verdictDue, writtenNumber, writtenRecords};
-ghost use Rattle.exports.specs.Contracts.{Tells, Begins, Steps};
+ghost use Rattle.exports.specs.Numbers.{verdict_number, verdict_at, verdict_due, written_number, written_records};
+ghost use Rattle.exports.specs.Clauses.{Tells, Begins, Steps};
 ghost use Rattle.exports.specs.Abi.{abi};
 
 use kernel::bench::{Written, bench};
@@ -25,9 +25,9 @@ pub extern "C" fn beltcairn_abi() -> u32
 // 21 to 32: that rule is broken, *at is the record, from 0. Rules out a breach told at record 0, and the reports due told as the records.
 #[unsafe(no_mangle)]
 pub extern "C" fn beltcairn_check(plan: &[u8], dump: &[u8], at: &mut u64, due: &mut u64) -> u8
-    ensures value { result ≡ verdictNumber (check plan.now dump.now) }
-    ensures at_after { at.new ≡ verdictAt (check plan.now dump.now) at.old }
-    ensures due_after { due.new ≡ verdictDue (check plan.now dump.now) due.old }
+    ensures value { result ≡ verdict_number (check plan.now dump.now) }
+    ensures at_after { at.new ≡ verdict_at (check plan.now dump.now) at.old }
+    ensures due_after { due.new ≡ verdict_due (check plan.now dump.now) due.old }
 {
     match check(plan, dump) {
         Verdict::Refused(question) => question,
@@ -47,9 +47,9 @@ pub extern "C" fn beltcairn_check(plan: &[u8], dump: &[u8], at: &mut u64, due: &
 // refuses. Rules out a refusal told as 0, and *records that is not what was written.
 #[unsafe(no_mangle)]
 pub extern "C" fn beltcairn_bench(plan: &[u8], list: &[u8], out: &mut [u8], records: &mut u64) -> u8
-    ensures value { result ≡ writtenNumber (answer plan.now list.now (length out.old)) }
+    ensures value { result ≡ written_number (answer plan.now list.now (length out.old)) }
     ensures out_after { out.new ≡ output plan.now list.now out.old }
-    ensures records_after { records.new ≡ writtenRecords (answer plan.now list.now (length out.old)) records.old }
+    ensures records_after { records.new ≡ written_records (answer plan.now list.now (length out.old)) records.old }
 {
     match bench(plan, list, out) {
         Written::Refused(question) => question,

@@ -11,66 +11,66 @@ use lib.ListN.{length, get_or, drop, length-drop}
 use Rattle.model.specs.Searches.{all, up_to}
 use Rattle.model.specs.Plan.{threads}
 use Rattle.model.specs.Records as records
-use Rattle.model.specs.Records.{timerCount, Yield, nobody, report, allowed}
-use Rattle.model.specs.State.{withoutSwitch}
-use Rattle.model.specs.Formed.{times, shownAtRest, switchLast, owedNone, claims, formedMachine, formedReports, formed}
-use Rattle.model.proofs.Tests.{is_false, from-true, and_left, and_right, and_both}
-use Rattle.model.proofs.Searches.{all-at}
-use Rattle.model.proofs.Loops.{and-true}
-use Rattle.model.proofs.Laws.{rest-claims}
+use Rattle.model.specs.Records.{timer_count, Yield, nobody, report, allowed}
+use Rattle.model.specs.State.{without_switch}
+use Rattle.model.specs.Formed.{times, shown_at_rest, switch_last, owed_none, claims, formed_machine, formed_reports, formed}
+use Rattle.model.proofs.Tests.{is_false, from_true, and_left, and_right, and_both}
+use Rattle.model.proofs.Searches.{all_at}
+use Rattle.model.proofs.Loops.{and_true}
+use Rattle.model.proofs.Laws.{rest_claims}
 use Rattle.plan.specs.declared.Plan.{Plan}
 use Rattle.plan.specs.View.{Fits, view}
-use Rattle.plan.proofs.Laws.{threads-view}
+use Rattle.plan.proofs.Laws.{threads_view}
 use Rattle.lists.proofs.Laws.{length-queued}
 use Rattle.clock.specs.View as timing
 use Rattle.due.specs.declared.reports.Report.{Report}
 use Rattle.due.specs.declared.reports.Reports.{Reports}
-use Rattle.due.specs.Lists.{reportRoom, reportOf, IsReport, noReport, owed}
-use Rattle.due.proofs.Laws.{by_kind, is-report, length-owed, none-due, in-due, within}
+use Rattle.due.specs.Lists.{report_room, report_of, IsReport, no_report, owed}
+use Rattle.due.proofs.Laws.{by_kind, is_report_lem, length-owed, none_due, in_due, within}
 use Rattle.machine.specs.declared.Machine.{Machine}
 use Rattle.machine.specs.declared.state.State.{State}
 use Rattle.machine.specs.View as machines
 use Rattle.machine.specs.View.{plan_of, viewed, idle}
 use Rattle.machine.specs.Kept.{kept, sound}
-use Rattle.machine.proofs.Laws.{machine-facts}
-use Rattle.formed.proofs.Outside.{second-asked, refused, decided, whatever-due}
+use Rattle.machine.proofs.Laws.{machine_facts}
+use Rattle.formed.proofs.Outside.{second_asked, refused, decided, whatever_due}
 
 -- an entry is a report of the papers': a Switch to nobody, the Expire of a timer, a Late of two bytes, or of a kind from 16 to 20 that names a thread
 module _ (p : Plan) (r : Report) where
-  abbrev isKind : Bool
-  isKind = leb 16 r.kind && leb r.kind 20
+  abbrev is_kind : Bool
+  is_kind = leb 16 r.kind && leb r.kind 20
 
   -- what the code answers
   abbrev Meets : Bool → Type 0
-  Meets b = b ≡ allowed (view p) (report (reportOf r))
+  Meets b = b ≡ allowed (view p) (report (report_of r))
 
-  pub to-nobody : r.kind ≡ 17 → r.operand ≡ nobody → Meets true
-  to-nobody e w = rw (e, w)
+  pub to_nobody : r.kind ≡ 17 → r.operand ≡ nobody → Meets true
+  to_nobody e w = rw (e, w)
 
-  pub of-timer : r.kind ≡ 21 → Meets (ltb r.operand timerCount)
-  of-timer e = rw e
+  pub of_timer : r.kind ≡ 21 → Meets (ltb r.operand timer_count)
+  of_timer e = rw e
 
-  pub of-count : r.operand ≤ 65535 → r.kind ≡ 22 → Meets true
-  of-count h e = rw e (sym (le-leb r.operand 65535 h))
+  pub of_count : r.operand ≤ 65535 → r.kind ≡ 22 → Meets true
+  of_count h e = rw e (sym (le-leb r.operand 65535 h))
 
   -- a number that names no kind stands for the report of a thread that no plan has
-  unknown : Fits p → (IsReport r → ⊥) → reportOf r ≡ Yield nobody → Meets (isKind && ltb r.operand p.threads)
-  unknown fits n e = rw (none, e, threads-view p) (sym (le-ltb nobody p.threads (omega (arith, fits.threads))))
+  unknown : Fits p → (IsReport r → ⊥) → report_of r ≡ Yield nobody → Meets (is_kind && ltb r.operand p.threads)
+  unknown fits n e = rw (none, e, threads_view p) (sym (le-ltb nobody p.threads (omega (arith, fits.threads))))
     where
-      is : T isKind → IsReport r
+      is : T is_kind → IsReport r
       is t =
           record {
             least = leb→le 16 r.kind (and_left (leb 16 r.kind) (leb r.kind 20) t);
             most = omega (arith, leb→le r.kind 20 (and_right (leb 16 r.kind) (leb r.kind 20) t));
           }
 
-      none : isKind ≡ false
-      none = is_false isKind (not_T isKind (λ t. n (is t)))
+      none : is_kind ≡ false
+      none = is_false is_kind (not_T is_kind (λ t. n (is t)))
 
-  pub to-thread : Fits p → (r.kind ≡ 17 → r.operand ≢ nobody) → r.kind ≢ 21 → r.kind ≢ 22 → Meets (isKind && ltb r.operand p.threads)
-  to-thread fits d i l =
-      by_kind r (Meets (isKind && ltb r.operand p.threads))
-      (λ e. rw (e, threads-view p)) (λ e. rw (e, ne_eqb r.operand nobody (d e), threads-view p)) (λ e. rw (e, threads-view p)) (λ e. rw (e, threads-view p)) (λ e. rw (e, threads-view p))
+  pub to_thread : Fits p → (r.kind ≡ 17 → r.operand ≢ nobody) → r.kind ≢ 21 → r.kind ≢ 22 → Meets (is_kind && ltb r.operand p.threads)
+  to_thread fits d i l =
+      by_kind r (Meets (is_kind && ltb r.operand p.threads))
+      (λ e. rw (e, threads_view p)) (λ e. rw (e, ne_eqb r.operand nobody (d e), threads_view p)) (λ e. rw (e, threads_view p)) (λ e. rw (e, threads_view p)) (λ e. rw (e, threads_view p))
       (λ e. absurd (i e)) (λ e. absurd (l e)) (unknown fits)
 
 -- those still to be given, where some are
@@ -85,22 +85,22 @@ module _ (m : Machine) (rs : Reports) (given : ℕ) (some-due : given < rs.count
   known = all (λ d. allowed (view m.plan) (report d)) due'
 
   abbrev last : Bool
-  last = switchLast due'
+  last = switch_last due'
 
   abbrev room : Bool
   room = leb (claims (viewed m due')) (threads (plan_of m) + 9)
 
   abbrev shown' : Bool
-  shown' = shownAtRest (plan_of m) (viewed m due')
+  shown' = shown_at_rest (plan_of m) (viewed m due')
 
-  still-due : length due' ≡ rs.count - given
-  still-due = length-drop given (owed rs) ∙ ap (λ n. n - given) (length-owed rs)
+  still_due : length due' ≡ rs.count - given
+  still_due = length-drop given (owed rs) ∙ ap (λ n. n - given) (length-owed rs)
 
   -- the thread reported is not asked for
-  not-asked : T shown'
-  not-asked = go due' (omega (arith, still-due))
+  not_asked : T shown'
+  not_asked = go due' (omega (arith, still_due))
     where
-      go : (l : List records.Report) → 0 < length l → T (shownAtRest (plan_of m) (viewed m l))
+      go : (l : List records.Report) → 0 < length l → T (shown_at_rest (plan_of m) (viewed m l))
       go [] k = absurd (omega arith)
       go (d ∷ l) k = tt
 
@@ -112,56 +112,56 @@ module _ (m : Machine) (rs : Reports) (given : ℕ) (some-due : given < rs.count
     room' : T room
 
   abbrev passes : Bool
-  passes = formedReports (plan_of m) (viewed m due')
+  passes = formed_reports (plan_of m) (viewed m due')
 
   asks : T passes → Asked
-  unfolding formedReports
+  unfolding formed_reports
   asks t =
       let three = and_left (few && known && shown' && last) room t in
       let two = and_left (few && known && shown') last three in
       let one = and_left (few && known) shown' two in
       record { few' = and_left few known one; known' = and_right few known one; last' = and_right (few && known && shown') last three; room' = and_right (few && known && shown' && last) room t }
 
-  asked-all : T few → T known → T last → T room → T passes
-  unfolding formedReports
-  asked-all a b c d = and_both (few && known && shown' && last) room (and_both (few && known && shown') last (and_both (few && known) shown' (and_both few known a b) not-asked) c) d
+  asked_all : T few → T known → T last → T room → T passes
+  unfolding formed_reports
+  asked_all a b c d = and_both (few && known && shown' && last) room (and_both (few && known && shown') last (and_both (few && known) shown' (and_both few known a b) not_asked) c) d
 
   -- the answer that the code gives
   abbrev Passes : Bool → Type 0
   Passes r = r ≡ passes
 
   pub too_many : m.plan.threads + 9 < rs.count - given → Passes false
-  too_many h = refused (λ t. (asks t).few') (sym (lt-leb (length due') (threads (plan_of m) + 9) (omega (arith, still-due, threads-view m.plan))))
+  too_many h = refused (λ t. (asks t).few') (sym (lt-leb (length due') (threads (plan_of m) + 9) (omega (arith, still_due, threads_view m.plan))))
 
-  pub one-refused : false ≡ known → Passes false
-  one-refused e = refused (λ t. (asks t).known') e
+  pub one_refused : false ≡ known → Passes false
+  one_refused e = refused (λ t. (asks t).known') e
 
   pub not_last : false ≡ last → Passes false
   not_last e = refused (λ t. (asks t).last') e
 
   -- an entry past the array's end stands for no report
-  pub past_end : Fits m.plan → length rs.items ≡ reportRoom → reportRoom < rs.count → Passes false
-  past_end fits z b = one-refused (sym (is_false known (not_T known (λ t. omega (arith, is t)))))
+  pub past_end : Fits m.plan → length rs.items ≡ report_room → report_room < rs.count → Passes false
+  past_end fits z b = one_refused (sym (is_false known (not_T known (λ t. omega (arith, is t)))))
     where
       entry : ℕ → Report
-      entry i = get_or rs.items i noReport
+      entry i = get_or rs.items i no_report
 
       end : ℕ
       end = rs.count - 1
 
-      is : T known → end < reportRoom
+      is : T known → end < report_room
       is t =
           within rs.items end z
-          (is-report (entry end) (view m.plan) (omega (arith, threads-view m.plan, fits.threads)) (all-at (λ d. allowed (view m.plan) (report d)) due' t (in-due entry rs.count given end (omega arith) (omega arith))))
+          (is_report_lem (entry end) (view m.plan) (omega (arith, threads_view m.plan, fits.threads)) (all_at (λ d. allowed (view m.plan) (report d)) due' t (in_due entry rs.count given end (omega arith) (omega arith))))
 
   -- where all before it pass, what has a claim on the room decides
-  pub room-decides : {r : Bool} → rs.count - given ≤ m.plan.threads + 9 → known ≡ true → last ≡ true
-      → r ≡ leb (length (withoutSwitch due') + m.delays.count + times (owedNone (timing.view m.timers) due') (up_to timerCount) + 1) (m.plan.threads + 9)
+  pub room_decides : {r : Bool} → rs.count - given ≤ m.plan.threads + 9 → known ≡ true → last ≡ true
+      → r ≡ leb (length (without_switch due') + m.delays.count + times (owed_none (timing.view m.timers) due') (up_to timer_count) + 1) (m.plan.threads + 9)
       → Passes r
-  room-decides {r} a b c e =
-      decided (asked-all (le→leb (length due') (threads (plan_of m) + 9) (omega (arith, a, still-due, threads-view m.plan))) (from-true known b) (from-true last c)) (λ t. (asks t).room')
+  room_decides {r} a b c e =
+      decided (asked_all (le→leb (length due') (threads (plan_of m) + 9) (omega (arith, a, still_due, threads_view m.plan))) (from_true known b) (from_true last c)) (λ t. (asks t).room')
       (e
-      ∙ ap₂ (λ d n. leb (length (withoutSwitch due') + d + times (owedNone (timing.view m.timers) due') (up_to timerCount) + 1) (n + 9)) (sym (length-queued m.delays)) (sym (threads-view m.plan)))
+      ∙ ap₂ (λ d n. leb (length (without_switch due') + d + times (owed_none (timing.view m.timers) due') (up_to timer_count) + 1) (n + 9)) (sym (length-queued m.delays)) (sym (threads_view m.plan)))
 
 -- behind the machine and what it keeps, what is due decides
 module _ (s : State) where
@@ -169,36 +169,36 @@ module _ (s : State) where
   abbrev IsSound : Bool → Type 0
   IsSound r = r ≡ sound s
 
-  pub not-formed : false ≡ formedMachine (plan_of s.machine) (idle s.machine) → IsSound false
+  pub not_formed : false ≡ formed_machine (plan_of s.machine) (idle s.machine) → IsSound false
   unfolding formed
-  not-formed e = ap (λ b. b && formedReports (plan_of s.machine) (machines.view s) && kept s.machine) (e ∙ sym (whatever-due s.machine (machines.view s).due))
+  not_formed e = ap (λ b. b && formed_reports (plan_of s.machine) (machines.view s) && kept s.machine) (e ∙ sym (whatever_due s.machine (machines.view s).due))
 
-  pub not-kept : false ≡ kept s.machine → IsSound false
-  not-kept e = refused (λ t. and_right (formed (plan_of s.machine) (machines.view s)) (kept s.machine) t) e
+  pub not_kept : false ≡ kept s.machine → IsSound false
+  not_kept e = refused (λ t. and_right (formed (plan_of s.machine) (machines.view s)) (kept s.machine) t) e
 
-  module _ (e : formedMachine (plan_of s.machine) (idle s.machine) ≡ true) (k : kept s.machine ≡ true) where
-    pub with-due : {r : Bool} → r ≡ formedReports (plan_of s.machine) (machines.view s) → IsSound r
+  module _ (e : formed_machine (plan_of s.machine) (idle s.machine) ≡ true) (k : kept s.machine ≡ true) where
+    pub with_due : {r : Bool} → r ≡ formed_reports (plan_of s.machine) (machines.view s) → IsSound r
     unfolding formed
-    with-due q =
-        second-asked (formedMachine (plan_of s.machine) (machines.view s)) _ (whatever-due s.machine (machines.view s).due ∙ e) q
-        ∙ sym (ap (λ b. formed (plan_of s.machine) (machines.view s) && b) k ∙ and-true (formed (plan_of s.machine) (machines.view s)))
+    with_due q =
+        second_asked (formed_machine (plan_of s.machine) (machines.view s)) _ (whatever_due s.machine (machines.view s).due ∙ e) q
+        ∙ sym (ap (λ b. formed (plan_of s.machine) (machines.view s) && b) k ∙ and_true (formed (plan_of s.machine) (machines.view s)))
 
     -- with nothing due the thread reported does
-    pub at_rest : s.due.count ≤ s.given → {r : Bool} → r ≡ shownAtRest (plan_of s.machine) (idle s.machine) → IsSound r
-    unfolding formedReports
-    at_rest h q = with-due (q ∙ at_once ∙ ap (λ l. formedReports (plan_of s.machine) (viewed s.machine l)) (sym none))
+    pub at_rest : s.due.count ≤ s.given → {r : Bool} → r ≡ shown_at_rest (plan_of s.machine) (idle s.machine) → IsSound r
+    unfolding formed_reports
+    at_rest h q = with_due (q ∙ at_once ∙ ap (λ l. formed_reports (plan_of s.machine) (viewed s.machine l)) (sym none))
       where
         none : (machines.view s).due ≡ []
-        none = none-due (λ i. get_or s.due.items i noReport) s.due.count s.given h
+        none = none_due (λ i. get_or s.due.items i no_report) s.due.count s.given h
 
         shown' : Bool
-        shown' = shownAtRest (plan_of s.machine) (idle s.machine)
+        shown' = shown_at_rest (plan_of s.machine) (idle s.machine)
 
         few : leb 0 (threads (plan_of s.machine) + 9) ≡ true
         few = le-leb 0 (threads (plan_of s.machine) + 9) (omega arith)
 
         room : leb (claims (idle s.machine)) (threads (plan_of s.machine) + 9) ≡ true
-        room = le-leb (claims (idle s.machine)) (threads (plan_of s.machine) + 9) (rest-claims (plan_of s.machine) (idle s.machine) (machine-facts s.machine (from-true _ e)) refl)
+        room = le-leb (claims (idle s.machine)) (threads (plan_of s.machine) + 9) (rest_claims (plan_of s.machine) (idle s.machine) (machine_facts s.machine (from_true _ e)) refl)
 
-        at_once : shown' ≡ formedReports (plan_of s.machine) (idle s.machine)
-        at_once = sym (ap₂ (λ a b. a && true && shown' && true && b) few room ∙ and-true (shown' && true) ∙ and-true shown')
+        at_once : shown' ≡ formed_reports (plan_of s.machine) (idle s.machine)
+        at_once = sym (ap₂ (λ a b. a && true && shown' && true && b) few room ∙ and_true (shown' && true) ∙ and_true shown')

@@ -1,10 +1,10 @@
 // The conditions of a lent state: whether each is in range.
 ghost use Rattle.std.specs.Prelude.{◌≡◌, true, ◌≤◌, leb, map};
 ghost use Rattle.model.specs.Searches.{all, up_to};
-ghost use Rattle.model.specs.Formed.{lastWake, conditionInRange};
+ghost use Rattle.model.specs.Formed.{last_wake, condition_in_range};
 ghost use Rattle.clock.specs.View.{number_at};
-ghost use Rattle.machine.specs.View.{conditionOf, conditionsOf};
-ghost use Rattle.formed.specs.Contracts.{Calm};
+ghost use Rattle.machine.specs.View.{condition_of, conditions_of};
+ghost use Rattle.formed.specs.Clauses.{Calm};
 
 use clock::time::{LAST_WAKE, Tick};
 use lists::nibbles::nibble_at;
@@ -13,7 +13,7 @@ use machine::slots::Slots;
 // Whether the number names a condition, and its tick number or section is in range.
 fn slot_in_range(state: u8, want: u8, wake: Tick, sections: usize) -> bool
     requires { sections ≤ 16 }
-    ensures { result ≡ conditionInRange sections (conditionOf state want wake.0) }
+    ensures { result ≡ condition_in_range sections (condition_of state want wake.0) }
 {
     if state == 2 {
         wake.0 <= LAST_WAKE.0
@@ -27,7 +27,7 @@ fn slot_in_range(state: u8, want: u8, wake: Tick, sections: usize) -> bool
 // Whether each names a condition, and its tick number or section is in range.
 fn in_range(slots: Slots, wakes: [Tick; 16], threads: usize, sections: usize) -> bool
     requires { (threads ≤ 16) × (sections ≤ 16) }
-    ensures { result ≡ all (conditionInRange sections) (conditionsOf threads slots wakes) }
+    ensures { result ≡ all (condition_in_range sections) (conditions_of threads slots wakes) }
 {
     let mut t: usize = 0;
     while t < threads {
@@ -43,7 +43,7 @@ fn in_range(slots: Slots, wakes: [Tick; 16], threads: usize, sections: usize) ->
 
 // Whether none of sixteen tick numbers is above the greatest that a sleeper waits for: asked at once, without an early end.
 fn in_time(wakes: [Tick; 16]) -> bool
-    ensures { result ≡ all (λ n. leb n lastWake) (map (number_at wakes) (up_to 16)) }
+    ensures { result ≡ all (λ n. leb n last_wake) (map (number_at wakes) (up_to 16)) }
 {
     let mut pass = true;
     let mut t: usize = 0;
@@ -66,7 +66,7 @@ pub(crate) fn fit(
     sections: usize,
 ) -> bool
     requires { (threads ≤ 16) × (sections ≤ 16) × (calm ≡ true → Calm slots.states threads) }
-    ensures { result ≡ all (conditionInRange sections) (conditionsOf threads slots wakes) }
+    ensures { result ≡ all (condition_in_range sections) (conditions_of threads slots wakes) }
 {
     if calm && in_time(wakes) {
         return true;

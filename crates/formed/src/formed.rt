@@ -1,9 +1,9 @@
 // Answer 12: whether a state that came from outside is well formed. The counts are tested before an entry is read.
 ghost use Rattle.std.specs.Prelude.{◌≡◌, ◌&&◌, T, leb};
-ghost use Rattle.model.specs.Formed.{numbersInRange, shownAtRest, formedMachine};
+ghost use Rattle.model.specs.Formed.{numbers_in_range, shown_at_rest, formed_machine};
 ghost use Rattle.machine.specs.View.{plan_of, idle};
 ghost use Rattle.machine.specs.Kept.{kept, sound};
-ghost use Rattle.formed.specs.Contracts.{Counted, Stood};
+ghost use Rattle.formed.specs.Clauses.{Counted, Stood};
 
 use crate::kept::{empty_fits, keeps};
 use crate::standing::stand_once;
@@ -17,7 +17,7 @@ use plan::questions::passes;
 // that where the waits are empty no condition is a wait.
 fn numbers_in_range(m: Machine) -> bool
     requires { Counted m × Stood m }
-    ensures { result ≡ numbersInRange (plan_of m) (idle m) }
+    ensures { result ≡ numbers_in_range (plan_of m) (idle m) }
 {
     let p = m.plan;
     let now = m.tick;
@@ -53,9 +53,9 @@ fn counted(m: Machine) -> bool
     m.queue.count <= 16 && m.waits.count <= 16 && m.delays.count <= 16 && m.holds.count <= 16
 }
 
-// Whether the machine is well formed, whatever is due: see model, Formed.formedMachine.
+// Whether the machine is well formed, whatever is due: see model, Formed.formed_machine.
 fn machine_formed(m: Machine) -> bool
-    ensures { result ≡ formedMachine (plan_of m) (idle m) }
+    ensures { result ≡ formed_machine (plan_of m) (idle m) }
 {
     let p = m.plan;
     if !passes(p) {
@@ -82,8 +82,8 @@ fn machine_formed(m: Machine) -> bool
 
 // Whether the chosen thread is the one last reported. The owner was asked for before.
 fn shown(m: Machine) -> bool
-    requires { T (formedMachine (plan_of m) (idle m)) × T (kept m) }
-    ensures { result ≡ shownAtRest (plan_of m) (idle m) }
+    requires { T (formed_machine (plan_of m) (idle m)) × T (kept m) }
+    ensures { result ≡ shown_at_rest (plan_of m) (idle m) }
 {
     m.chosen() == m.reported
 }

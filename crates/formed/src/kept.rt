@@ -1,6 +1,6 @@
 // What a lent state keeps beside the machine's state. Asked in two parts: where nothing is held there is nothing to walk over.
 ghost use Rattle.std.specs.Prelude.{◌≡◌, not, ◌&&◌, ◌||◌, T, eqb};
-ghost use Rattle.model.specs.Formed.{formedMachine};
+ghost use Rattle.model.specs.Formed.{formed_machine};
 ghost use Rattle.machine.specs.View.{plan_of, idle};
 ghost use Rattle.machine.specs.Kept.{kept};
 
@@ -22,7 +22,7 @@ pub(crate) fn empty_fits(holds: Holds) -> bool
 
 // Whether the owner and the greatest held ceiling are those that a walk finds.
 pub(crate) fn keeps(m: Machine) -> bool
-    requires { T (formedMachine (plan_of m) (idle m)) }
+    requires { T (formed_machine (plan_of m) (idle m)) }
     ensures { result ≡ kept m }
 {
     let holds = m.holds;

@@ -1,12 +1,12 @@
 // The reports due of a lent state.
 ghost use Rattle.std.specs.Prelude.{◌≡◌, ◌≤◌, ◌<◌, length, drop};
 ghost use Rattle.model.specs.Searches.{all, up_to};
-ghost use Rattle.model.specs.Records.{timerCount, report, allowed};
-ghost use Rattle.model.specs.State.{withoutSwitch};
-ghost use Rattle.model.specs.Formed.{times, switchLast, owedNone, formedReports};
+ghost use Rattle.model.specs.Records.{timer_count, report, allowed};
+ghost use Rattle.model.specs.State.{without_switch};
+ghost use Rattle.model.specs.Formed.{times, switch_last, owed_none, formed_reports};
 ghost use Rattle.plan.specs.View.{Fits, view};
 ghost use Rattle.clock.specs.View as timing;
-ghost use Rattle.due.specs.Lists.{reportRoom, reportOf, owed};
+ghost use Rattle.due.specs.Lists.{report_room, report_of, owed};
 ghost use Rattle.machine.specs.View.{plan_of, viewed};
 
 use clock::timers::{TIMERS, Timers};
@@ -17,7 +17,7 @@ use plan::Plan;
 // A report of the papers': of a thread of the plan, or a Switch to nobody, an Expire of one of the eight timers, or a Late, whatever its count.
 fn is_report(entry: Report, plan: Plan) -> bool
     requires { Fits plan }
-    ensures { result ≡ allowed (view plan) (report (reportOf entry)) }
+    ensures { result ≡ allowed (view plan) (report (report_of entry)) }
 {
     let kind = entry.kind;
     let operand = entry.operand;
@@ -35,7 +35,7 @@ fn is_report(entry: Report, plan: Plan) -> bool
 
 // Whether those behind the first `given` are reports of the papers'.
 fn all_reports(reports: Reports, given: usize, plan: Plan) -> bool
-    requires { Fits plan × (reports.count ≤ reportRoom) }
+    requires { Fits plan × (reports.count ≤ report_room) }
     ensures { result ≡ all (λ d. allowed (view plan) (report d)) (drop given (owed reports)) }
 {
     let items = reports.items;
@@ -53,8 +53,8 @@ fn all_reports(reports: Reports, given: usize, plan: Plan) -> bool
 
 // Where some are due: whether a Switch among them is last.
 fn switch_last(reports: Reports, given: usize) -> bool
-    requires { (given < reports.count) × (reports.count ≤ reportRoom) }
-    ensures { result ≡ switchLast (drop given (owed reports)) }
+    requires { (given < reports.count) × (reports.count ≤ report_room) }
+    ensures { result ≡ switch_last (drop given (owed reports)) }
 {
     let items = reports.items;
     let last = reports.count - 1;
@@ -71,8 +71,8 @@ fn switch_last(reports: Reports, given: usize) -> bool
 
 // How many are due, a Switch not counted.
 fn but_switch(reports: Reports, given: usize) -> usize
-    requires { reports.count ≤ reportRoom }
-    ensures { result ≡ length (withoutSwitch (drop given (owed reports))) }
+    requires { reports.count ≤ report_room }
+    ensures { result ≡ length (without_switch (drop given (owed reports))) }
 {
     let items = reports.items;
     let n = reports.count;
@@ -90,8 +90,8 @@ fn but_switch(reports: Reports, given: usize) -> usize
 
 // How many timers are armed and owed no Expire.
 fn owed_none(timers: Timers, reports: Reports, given: usize) -> usize
-    requires { reports.count ≤ reportRoom }
-    ensures { result ≡ times (owedNone (timing.view timers) (drop given (owed reports))) (up_to timerCount) }
+    requires { reports.count ≤ report_room }
+    ensures { result ≡ times (owed_none (timing.view timers) (drop given (owed reports))) (up_to timer_count) }
 {
     let mut count: usize = 0;
     let mut i: usize = 0;
@@ -104,10 +104,10 @@ fn owed_none(timers: Timers, reports: Reports, given: usize) -> usize
     count
 }
 
-// Where some are due: whether they are well formed, and what has a claim on the room for them finds it: see model, Formed.formedReports.
+// Where some are due: whether they are well formed, and what has a claim on the room for them finds it: see model, Formed.formed_reports.
 pub(crate) fn formed(reports: Reports, given: usize, m: Machine) -> bool
     requires { Fits m.plan × (m.delays.count ≤ 16) × (given < reports.count) }
-    ensures { result ≡ formedReports (plan_of m) (viewed m (drop given (owed reports))) }
+    ensures { result ≡ formed_reports (plan_of m) (viewed m (drop given (owed reports))) }
 {
     let most = m.plan.threads + 9;
     let n = reports.count;

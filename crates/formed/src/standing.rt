@@ -1,7 +1,7 @@
 // Where the threads of a lent state stand: a ready one in the queue, one that waits in the waits, a sleeper in the order of Delays, each once.
 ghost use Rattle.std.specs.Prelude.{◌≡◌, cond, ◌&&◌, ◌+◌, ◌≤◌, ◌<◌, leb};
 ghost use Rattle.lists.specs.Lists.{queued};
-ghost use Rattle.formed.specs.Contracts.{allStand, namesThose, standing};
+ghost use Rattle.formed.specs.Clauses.{all_stand, names_those, standing};
 
 use lists::nibbles::{marks, nibble_at, tally};
 use lists::queue::Queue;
@@ -10,7 +10,7 @@ use lists::queue::Queue;
 // condition says that the thread is ready or waits, the next one that it waits or sleeps.
 fn all_stand(states: u64, queue: Queue, waits: Queue, delays: Queue) -> bool
     requires { (queue.count + waits.count < 16) × (delays.count + waits.count < 16) }
-    ensures { result ≡ allStand states (queued queue) (queued waits) (queued delays) }
+    ensures { result ≡ all_stand states (queued queue) (queued waits) (queued delays) }
 {
     let waiting = marks(0, waits.items, waits.count);
     let lowest = marks(waiting, queue.items, queue.count);
@@ -41,7 +41,7 @@ fn named(state: u8, least: u8, most: u8) -> u8
 // Whether a list names each thread once whose condition has a number from `least` to `most`, and no other.
 fn names(threads: usize, states: u64, list: Queue, least: u8, most: u8) -> bool
     requires { (threads ≤ 16) × (list.count ≤ 16) }
-    ensures { result ≡ namesThose threads states (queued list) least most }
+    ensures { result ≡ names_those threads states (queued list) least most }
 {
     let mut found = [0u8; 16];
     tally(list.items, list.count, &mut found);

@@ -1,22 +1,22 @@
 // The timers of a lent state.
 ghost use Rattle.std.specs.Prelude.{◌≡◌, leb, map};
 ghost use Rattle.model.specs.Searches.{all, up_to};
-ghost use Rattle.model.specs.Formed.{lastExpiry, armingInRange, timersInRange};
-ghost use Rattle.clock.specs.View.{number_at, armingOf, view};
+ghost use Rattle.model.specs.Formed.{last_expiry, arming_in_range, timers_in_range};
+ghost use Rattle.clock.specs.View.{number_at, arming_of, view};
 
 use clock::time::{LAST_EXPIRY, Tick};
 use clock::timers::{Arming, TIMERS, Timers};
 
 // Whether an arming that is in progress has come to a stage that there is, and is of one of the eight timers.
 fn arming_in_range(arming: Arming) -> bool
-    ensures { result ≡ armingInRange (armingOf arming) }
+    ensures { result ≡ arming_in_range (arming_of arming) }
 {
     arming.stage == 0 || arming.stage <= 2 && (arming.timer as usize) < TIMERS
 }
 
 // Whether none of the eight expiries is above the greatest: asked at once, without an early end. A timer that is not armed has 0 there.
 fn in_time(expiries: [Tick; TIMERS]) -> bool
-    ensures { result ≡ all (λ n. leb n lastExpiry) (map (number_at expiries) (up_to 8)) }
+    ensures { result ≡ all (λ n. leb n last_expiry) (map (number_at expiries) (up_to 8)) }
 {
     let mut pass = true;
     let mut i: usize = 0;
@@ -32,7 +32,7 @@ fn in_time(expiries: [Tick; TIMERS]) -> bool
 
 // Whether the arming and every expiry is in range.
 pub(crate) fn in_range(timers: Timers) -> bool
-    ensures { result ≡ timersInRange (view timers) }
+    ensures { result ≡ timers_in_range (view timers) }
 {
     let arming = timers.arming;
     let expiries = timers.expiries;

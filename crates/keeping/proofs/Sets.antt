@@ -7,72 +7,72 @@ use Prim.Native.Nat.{ℕ}
 use Rattle.model.specs.Searches.{◌▷◌, same}
 use Rattle.model.specs.Plan.{Plan, ceiling}
 use Rattle.model.specs.Records.{Call, Create, Delay, Relinquish, End, Take, Give, Tick, Timing, Switch, Won, Lost, Ready, Yield, Record, call, report}
-use Rattle.model.specs.State.{waiting, hold, State, condition, lastReported, becomes, leaveQueue, joinQueue, arrive, joinWaits, leaveWaits, beginHold, endHold, owe}
-use Rattle.model.specs.Priorities.{heldCeiling, chosen}
-use Rattle.model.specs.Calls.{create, tick, delay, rivalled, relinquish, end, aboveAll, heldByOthers, take, wanted, heir, handOver, give, timing, switch, byCaller, perform}
+use Rattle.model.specs.State.{waiting, hold, State, condition, last_reported, becomes, leave_queue, join_queue, arrive, join_waits, leave_waits, begin_hold, end_hold, owe}
+use Rattle.model.specs.Priorities.{held_ceiling, chosen}
+use Rattle.model.specs.Calls.{create, tick, delay, rivalled, relinquish, end, above_all, held_by_others, take, wanted, heir, hand_over, give, timing, switch, by_caller, perform}
 use Rattle.model.specs.Rules.{broken}
 use Rattle.model.specs.Runs.{Outcome, moved, broke, outcome, effect, step}
-use Rattle.keeping.specs.Top.{Top, walk, gained, taken, handed, gave, setFor, setBy}
-use Rattle.keeping.proofs.Walks.{gained-walk}
+use Rattle.keeping.specs.Top.{Top, walk, gained, taken, handed, gave, set_for, set_by}
+use Rattle.keeping.proofs.Walks.{gained_walk}
 
-switch-holds : (p : Plan) (st : State) → (switch p st).holds ≡ st.holds
+switch_holds : (p : Plan) (st : State) → (switch p st).holds ≡ st.holds
 unfolding switch
-switch-holds p st = go (same (lastReported st) (chosen p st))
+switch_holds p st = go (same (last_reported st) (chosen p st))
   where
     go : (b : Bool) → (cond b st (st ▷ owe (Switch (chosen p st) ∷ []))).holds ≡ st.holds
     go true = refl
     go false = refl
 
-handed-walk : (p : Plan) (st : State) (o : Option ℕ) → handed p o st (walk p st.holds) ≡ walk p (handOver p o st).holds
-handed-walk p st none = refl
-handed-walk p st (some w) = go (aboveAll p w st.holds)
+handed_walk : (p : Plan) (st : State) (o : Option ℕ) → handed p o st (walk p st.holds) ≡ walk p (hand_over p o st).holds
+handed_walk p st none = refl
+handed_walk p st (some w) = go (above_all p w st.holds)
   where
     go : (b : Bool) → cond b (gained (ceiling p (wanted (condition st w))) w (walk p st.holds)) (walk p st.holds)
-        ≡ walk p (cond b (st ▷ leaveWaits w ▷ beginHold (wanted (condition st w)) w ▷ arrive (w ∷ []) ▷ owe (Won w ∷ Ready w ∷ [])) (st ▷ owe (Lost w ∷ []))).holds
-    go true = gained-walk (heldCeiling p) (hold (wanted (condition st w)) w) st.holds
+        ≡ walk p (cond b (st ▷ leave_waits w ▷ begin_hold (wanted (condition st w)) w ▷ arrive (w ∷ []) ▷ owe (Won w ∷ Ready w ∷ [])) (st ▷ owe (Lost w ∷ []))).holds
+    go true = gained_walk (held_ceiling p) (hold (wanted (condition st w)) w) st.holds
     go false = refl
 
 module _ (p : Plan) (st : State) where
-  relinquish-holds : (x : ℕ) → (relinquish p x st).holds ≡ st.holds
+  relinquish_holds : (x : ℕ) → (relinquish p x st).holds ≡ st.holds
   unfolding relinquish
-  relinquish-holds x = go (rivalled p x st)
+  relinquish_holds x = go (rivalled p x st)
     where
-      go : (b : Bool) → (cond b (st ▷ leaveQueue x ▷ joinQueue x ▷ owe (Yield x ∷ [])) st).holds ≡ st.holds
+      go : (b : Bool) → (cond b (st ▷ leave_queue x ▷ join_queue x ▷ owe (Yield x ∷ [])) st).holds ≡ st.holds
       go true = refl
       go false = refl
 
   take_walk : (x s : ℕ) → taken p x s st (walk p st.holds) ≡ walk p (take p x s st).holds
   unfolding take
-  take_walk x s = go (aboveAll p x (heldByOthers x st.holds))
+  take_walk x s = go (above_all p x (held_by_others x st.holds))
     where
       go : (b : Bool) → cond b (gained (ceiling p s) x (walk p st.holds)) (walk p st.holds)
-          ≡ walk p (cond b (st ▷ beginHold s x ▷ owe (Won x ∷ [])) (st ▷ leaveQueue x ▷ becomes (waiting s) x ▷ joinWaits x ▷ owe (Lost x ∷ []))).holds
-      go true = gained-walk (heldCeiling p) (hold s x) st.holds
+          ≡ walk p (cond b (st ▷ begin_hold s x ▷ owe (Won x ∷ [])) (st ▷ leave_queue x ▷ becomes (waiting s) x ▷ join_waits x ▷ owe (Lost x ∷ []))).holds
+      go true = gained_walk (held_ceiling p) (hold s x) st.holds
       go false = refl
 
   -- with nobody running nothing moves
-  caller-walk : (o : Option ℕ) (act : ℕ → State → State) (set : ℕ → Top → Top) → ((x : ℕ) → set x (walk p st.holds) ≡ walk p (act x st).holds) → setFor o set (walk p st.holds) ≡ walk p (byCaller o act st).holds
-  caller-walk none act set e = refl
-  caller-walk (some x) act set e = e x
+  caller_walk : (o : Option ℕ) (act : ℕ → State → State) (set : ℕ → Top → Top) → ((x : ℕ) → set x (walk p st.holds) ≡ walk p (act x st).holds) → set_for o set (walk p st.holds) ≡ walk p (by_caller o act st).holds
+  caller_walk none act set e = refl
+  caller_walk (some x) act set e = e x
 
-  caller_holds : (o : Option ℕ) (act : ℕ → State → State) → ((x : ℕ) → (act x st).holds ≡ st.holds) → walk p st.holds ≡ walk p (byCaller o act st).holds
+  caller_holds : (o : Option ℕ) (act : ℕ → State → State) → ((x : ℕ) → (act x st).holds ≡ st.holds) → walk p st.holds ≡ walk p (by_caller o act st).holds
   caller_holds none act e = refl
   caller_holds (some x) act e = ap (walk p) (sym (e x))
 
-  perform-walk : (k : Call) → setBy p (call k) st (walk p st.holds) ≡ walk p (perform p k st).holds
+  perform_walk : (k : Call) → set_by p (call k) st (walk p st.holds) ≡ walk p (perform p k st).holds
   unfolding create tick delay end give timing
-  perform-walk (Create t) = refl
-  perform-walk (Delay n) = caller_holds (chosen p st) (λ x. delay x n) (λ x. refl)
-  perform-walk Relinquish = caller_holds (chosen p st) (relinquish p) relinquish-holds
-  perform-walk End = caller_holds (chosen p st) end (λ x. refl)
-  perform-walk (Take s) = caller-walk (chosen p st) (λ x. take p x s) (λ x. taken p x s st) (λ x. take_walk x s)
-  perform-walk (Give s) = caller-walk (chosen p st) (λ x. give p x s) (λ x. gave p x s st) (λ x. handed-walk p (endHold s x st) (heir p st))
-  perform-walk Tick = refl
-  perform-walk (Timing k) = refl
+  perform_walk (Create t) = refl
+  perform_walk (Delay n) = caller_holds (chosen p st) (λ x. delay x n) (λ x. refl)
+  perform_walk Relinquish = caller_holds (chosen p st) (relinquish p) relinquish_holds
+  perform_walk End = caller_holds (chosen p st) end (λ x. refl)
+  perform_walk (Take s) = caller_walk (chosen p st) (λ x. take p x s) (λ x. taken p x s st) (λ x. take_walk x s)
+  perform_walk (Give s) = caller_walk (chosen p st) (λ x. give p x s) (λ x. gave p x s st) (λ x. handed_walk p (end_hold s x st) (heir p st))
+  perform_walk Tick = refl
+  perform_walk (Timing k) = refl
 
   -- in every state, one that came from outside too
-  pub set_walk : (r : Record) → setBy p r st (walk p st.holds) ≡ walk p (effect p r st).holds
-  set_walk (call k) = perform-walk k ∙ ap (walk p) (sym (switch-holds p (perform p k st)))
+  pub set_walk : (r : Record) → set_by p r st (walk p st.holds) ≡ walk p (effect p r st).holds
+  set_walk (call k) = perform_walk k ∙ ap (walk p) (sym (switch_holds p (perform p k st)))
   set_walk (report r) = refl
 
   -- so does each that moves the machine
@@ -89,5 +89,5 @@ module _ (p : Plan) (st : State) where
       go none = refl
       go (some n) = refl
 
-  pub set-moved : (r : Record) (st' : State) → step p st r ≡ moved st' → setBy p r st (walk p st.holds) ≡ walk p st'.holds
+  pub set-moved : (r : Record) (st' : State) → step p st r ≡ moved st' → set_by p r st (walk p st.holds) ≡ walk p st'.holds
   set-moved r st' e = set_walk r ∙ ap (λ (x : State). walk p x.holds) (moved_by r st' e)

@@ -12,48 +12,48 @@ use Rattle.model.specs.Records.{call}
 use Rattle.model.specs.Runs.{clean, judge}
 use Rattle.model.specs.Bench.{calls_of, Complete, Rested}
 use Rattle.plan.specs.Bytes as plans
-use Rattle.plan.specs.Bytes.{threadCount, sectionCount, plan_of}
+use Rattle.plan.specs.Bytes.{thread_count, section_count, plan_of}
 use Rattle.dump.specs.Layout.{decode, encode}
 use Rattle.dump.specs.Questions as dumps
-use Rattle.kernel.specs.Answers.{wrote, bytesFor, answer, output}
-use Rattle.kernel.proofs.Wrote.{wrote-all}
-use Rattle.kernel.proofs.Dumped.{dump-clean, dump-complete, dump-rested, dump-passes, dump-calls, dump-answer, dump-output}
+use Rattle.kernel.specs.Answers.{wrote, bytes_for, answer, output}
+use Rattle.kernel.proofs.Wrote.{wrote_all}
+use Rattle.kernel.proofs.Dumped.{dump_clean, dump_complete, dump_rested, dump_passes, dump_calls, dump_answer, dump_output}
 -- where one of questions 1 to 8 refuses plan and list its number is the answer, and the output stays as it is
-pub use Rattle.kernel.proofs.Answering.{refused-answer, refused-output}
+pub use Rattle.kernel.proofs.Answering.{refused_answer, refused_output}
 -- question 11 refuses nothing where there is room for the greatest number of records
-pub use Rattle.kernel.proofs.Room.{enough-space}
+pub use Rattle.kernel.proofs.Room.{enough_space}
 
 -- Where n records are written, the bytes in front are a clean dump with nothing due,
-pub written-clean : (plan list out : List ℕ) (n : ℕ) → answer plan list (length out) ≡ wrote n → judge (plan_of plan) (decode (take (bytesFor n) (output plan list out))) ≡ clean n 0
-written-clean plan list out n e = dump-clean (wrote-all plan list out n e)
+pub written_clean : (plan list out : List ℕ) (n : ℕ) → answer plan list (length out) ≡ wrote n → judge (plan_of plan) (decode (take (bytes_for n) (output plan list out))) ≡ clean n 0
+written_clean plan list out n e = dump_clean (wrote_all plan list out n e)
 
 -- which does not end inside an arming,
-pub written-complete : (plan list out : List ℕ) (n : ℕ) → answer plan list (length out) ≡ wrote n → Complete (plan_of plan) (decode (take (bytesFor n) (output plan list out)))
-written-complete plan list out n e = dump-complete (wrote-all plan list out n e)
+pub written_complete : (plan list out : List ℕ) (n : ℕ) → answer plan list (length out) ≡ wrote n → Complete (plan_of plan) (decode (take (bytes_for n) (output plan list out)))
+written_complete plan list out n e = dump_complete (wrote_all plan list out n e)
 
 -- in which every call comes with nothing due,
-pub written-rested : (plan list out : List ℕ) (n : ℕ) → answer plan list (length out) ≡ wrote n → Rested (plan_of plan) (decode (take (bytesFor n) (output plan list out)))
-written-rested plan list out n e = dump-rested (wrote-all plan list out n e)
+pub written_rested : (plan list out : List ℕ) (n : ℕ) → answer plan list (length out) ≡ wrote n → Rested (plan_of plan) (decode (take (bytes_for n) (output plan list out)))
+written_rested plan list out n e = dump_rested (wrote_all plan list out n e)
 
 -- they pass questions 5 to 8,
-pub written-passes : (plan list out : List ℕ) (n : ℕ) → answer plan list (length out) ≡ wrote n
-    → dumps.refusal (threadCount plan) (sectionCount plan) false (take (bytesFor n) (output plan list out)) ≡ none
-written-passes plan list out n e = dump-passes (wrote-all plan list out n e)
+pub written_passes : (plan list out : List ℕ) (n : ℕ) → answer plan list (length out) ≡ wrote n
+    → dumps.refusal (thread_count plan) (section_count plan) false (take (bytes_for n) (output plan list out)) ≡ none
+written_passes plan list out n e = dump_passes (wrote_all plan list out n e)
 
 -- and their calls are those of the list.
-pub written-calls : (plan list out : List ℕ) (n : ℕ) → answer plan list (length out) ≡ wrote n → calls_of (decode (take (bytesFor n) (output plan list out))) ≡ calls_of (decode list)
-written-calls plan list out n e = dump-calls (wrote-all plan list out n e)
+pub written_calls : (plan list out : List ℕ) (n : ℕ) → answer plan list (length out) ≡ wrote n → calls_of (decode (take (bytes_for n) (output plan list out))) ≡ calls_of (decode list)
+written_calls plan list out n e = dump_calls (wrote_all plan list out n e)
 
 -- Every clean dump with nothing due that does not end inside an arming, and in which every call comes with nothing due, is what the bench kernel writes for
 -- the dump's own calls, in any output with room for it.
-pub clean-written : (plan dump out : List ℕ) (n : ℕ) → plans.refusal plan ≡ none → T (all (λ b. ltb b 256) dump) → dumps.refusal (threadCount plan) (sectionCount plan) false dump ≡ none
+pub clean_written : (plan dump out : List ℕ) (n : ℕ) → plans.refusal plan ≡ none → T (all (λ b. ltb b 256) dump) → dumps.refusal (thread_count plan) (section_count plan) false dump ≡ none
     → judge (plan_of plan) (decode dump) ≡ clean n 0 → Complete (plan_of plan) (decode dump) → Rested (plan_of plan) (decode dump) → length dump ≤ length out
     → (answer plan (encode (map call (calls_of (decode dump)))) (length out) ≡ wrote n) × (take (length dump) (output plan (encode (map call (calls_of (decode dump)))) out) ≡ dump)
-clean-written plan dump out n p b d v c h r = (dump-answer plan dump out n p d v c h r, dump-output plan dump out n p d v c h r b)
+clean_written plan dump out n p b d v c h r = (dump_answer plan dump out n p d v c h r, dump_output plan dump out n p d v c h r b)
 
 -- What is written fits the output.
-pub written-fits : (plan list : List ℕ) (space n : ℕ) → answer plan list space ≡ wrote n → bytesFor n ≤ space
-written-fits plan list space n e =
+pub written_fits : (plan list : List ℕ) (space n : ℕ) → answer plan list space ≡ wrote n → bytes_for n ≤ space
+written_fits plan list space n e =
     let out : List ℕ = replicate space 0 in
     let size : length out ≡ space = length-replicate space 0 in
-    omega (arith, size, (wrote-all plan list out n (ap (answer plan list) size ∙ e)).room)
+    omega (arith, size, (wrote_all plan list out n (ap (answer plan list) size ∙ e)).room)

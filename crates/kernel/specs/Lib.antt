@@ -1,3 +1,3 @@
 -- What a reader must believe of this crate: what the bench kernel answers, and what it writes.
 pub mod Answers
-pub mod Contracts
+pub mod Clauses

@@ -2,7 +2,7 @@
 ghost use Rattle.std.specs.Prelude.{T};
 ghost use Rattle.model.specs.Formed.{formed};
 ghost use Rattle.machine.specs.View.{plan_of, view};
-ghost use Rattle.kernel.specs.Contracts.{Passed, Settles, Tallies, made_of};
+ghost use Rattle.kernel.specs.Clauses.{Passed, Settles, Tallies, made_of};
 
 use dump::layout::first_operand;
 use machine::state::State;
@@ -16,7 +16,7 @@ pub struct Counted {
     pub records: usize,
 }
 
-// Every report due is given: see model, Bench.deliverAll.
+// Every report due is given: see model, Bench.deliver_all.
 pub(crate) fn settled(state: State) -> State
     requires { T (formed (plan_of state.machine) (view state)) }
     ensures { Settles result state }

@@ -1,7 +1,7 @@
 // The records at their places in the output.
 ghost use Rattle.std.specs.Prelude.{◌≡◌, ◌+◌, ◌<◌, length};
-ghost use Rattle.kernel.specs.Answers.{recordsOf, atFront};
-ghost use Rattle.kernel.specs.Contracts.{Passed, made_of, recordPut, ReportsFit, Places, AllFit};
+ghost use Rattle.kernel.specs.Answers.{records_of, at_front};
+ghost use Rattle.kernel.specs.Clauses.{Passed, made_of, record_put, ReportsFit, Places, AllFit};
 
 use dump::layout::first_operand;
 use dump::place::entry_at;
@@ -20,7 +20,7 @@ pub struct Placed {
 // Record i goes to its two places, the operand to the running place.
 fn put(out: &mut [u8], i: usize, running: usize, kind: u8, operand: u16)
     requires { (2 + i < length out.old) × (running + 1 < length out.old) }
-    ensures { out.new ≡ recordPut i running kind operand out.old }
+    ensures { out.new ≡ record_put i running kind operand out.old }
 {
     out[2 + i] = kind;
     out[running] = (operand % 256) as u8;
@@ -59,7 +59,7 @@ pub(crate) fn write(
     n: usize,
 )
     requires { Passed plan ceilings.now list.now calls × AllFit (made_of plan list.now) n out.old }
-    ensures { out.new ≡ atFront (recordsOf (made_of plan list.now)) out.old }
+    ensures { out.new ≡ at_front (records_of (made_of plan list.now)) out.old }
 {
     out[0] = (n % 256) as u8;
     out[1] = (n / 256) as u8;

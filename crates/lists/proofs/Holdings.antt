@@ -9,14 +9,14 @@ use native.Mathlib.Omega.{arith}
 use borrow.Author.Tests.{ne_eqb, lt-ltb, le-ltb}
 use lib.Dec.{T, eqb, ltb, ltb→lt, nltb→le}
 use lib.ListN.{length}
-use Rattle.model.specs.Searches.{all, any, filter, better, firstGreatest}
+use Rattle.model.specs.Searches.{all, any, filter, better, first_greatest}
 use Rattle.model.specs.State as state
 use Rattle.model.specs.State.{hold}
 use Rattle.model.specs.Formed.{times}
 use Rattle.model.proofs.Tests.{split, is_true, is_false}
-use Rattle.lists.specs.Words.{withNibble, inFront, nibbles}
-use Rattle.keeping.specs.Top.{Top, walkBy}
-use Rattle.lists.specs.Lists.{heldIn, top_of}
+use Rattle.lists.specs.Words.{with_nibble, in_front, nibbles}
+use Rattle.keeping.specs.Top.{Top, walk_by}
+use Rattle.lists.specs.Lists.{held_in, top_of}
 use Rattle.lists.proofs.Words.{set-behind, front_kept}
 
 module _ {A : Type 0} where
@@ -47,9 +47,9 @@ module _ {A : Type 0} where
   all_pass f (a ∷ l) e = rw (e a) (all_pass f l e)
 
   -- no more pass than there are
-  pub times-bound : (f : A → Bool) (l : List A) → times f l ≤ length l
-  times-bound f [] = omega arith
-  times-bound f (a ∷ l) = go (f a) (times-bound f l)
+  pub times_bound : (f : A → Bool) (l : List A) → times f l ≤ length l
+  times_bound f [] = omega arith
+  times_bound f (a ∷ l) = go (f a) (times_bound f l)
     where
       go : (x : Bool) → times f l ≤ length l → length (cond x (a ∷ filter f l) (filter f l)) ≤ suc (length l)
       go true e = omega arith
@@ -65,13 +65,13 @@ module _ {A : Type 0} where
       go true h e = absurd (omega arith)
       go false h e = ap (λ r. a ∷ r) (e h)
 
-  pub only-first : (f : A → Bool) (a : A) (l : List A) → f a ≡ true → times f (a ∷ l) ≤ 1 → filter (λ b. not (f b)) (a ∷ l) ≡ l
-  only-first f a l e k = rw e (none_dropped f l (let z : times f (a ∷ l) ≡ suc (times f l) = rw e in omega arith))
+  pub only_first : (f : A → Bool) (a : A) (l : List A) → f a ≡ true → times f (a ∷ l) ≤ 1 → filter (λ b. not (f b)) (a ∷ l) ≡ l
+  only_first f a l e k = rw e (none_dropped f l (let z : times f (a ∷ l) ≡ suc (times f l) = rw e in omega arith))
 
   -- of the first two only the better one matters
   module _ (f : A → ℕ) (a b : A) (l : List A) where
-    best-later : f a < f b → firstGreatest f (a ∷ b ∷ l) ≡ firstGreatest f (b ∷ l)
-    best-later k = ap {B = Option A} some (go (firstGreatest f l))
+    best_later : f a < f b → first_greatest f (a ∷ b ∷ l) ≡ first_greatest f (b ∷ l)
+    best_later k = ap {B = Option A} some (go (first_greatest f l))
       where
         go : (o : Option A) → better f a (some (better f b o)) ≡ better f b o
         go none = rw (lt-ltb (f a) (f b) k)
@@ -81,8 +81,8 @@ module _ {A : Type 0} where
             cases (inl x) = rw (is_true (ltb (f b) (f c)) x, lt-ltb (f a) (f c) (omega (arith, ltb→lt (f b) (f c) x)))
             cases (inr x) = rw (is_false (ltb (f b) (f c)) x, lt-ltb (f a) (f b) k)
 
-    best-earlier : f b ≤ f a → firstGreatest f (a ∷ b ∷ l) ≡ firstGreatest f (a ∷ l)
-    best-earlier k = ap {B = Option A} some (go (firstGreatest f l))
+    best_earlier : f b ≤ f a → first_greatest f (a ∷ b ∷ l) ≡ first_greatest f (a ∷ l)
+    best_earlier k = ap {B = Option A} some (go (first_greatest f l))
       where
         go : (o : Option A) → better f a (some (better f b o)) ≡ better f a o
         go none = rw (le-ltb (f a) (f b) k)
@@ -92,54 +92,54 @@ module _ {A : Type 0} where
             cases (inl x) = rw (is_true (ltb (f b) (f c)) x)
             cases (inr x) = rw (is_false (ltb (f b) (f c)) x, le-ltb (f a) (f b) k, le-ltb (f a) (f c) (omega (arith, nltb→le (f b) (f c) x)))
 
-pub held-length : (n ss ts : ℕ) → length (heldIn n ss ts) ≡ n
+pub held-length : (n ss ts : ℕ) → length (held_in n ss ts) ≡ n
 held-length zero ss ts = refl
 held-length (suc n) ss ts = ap suc (held-length n (ss / 16) (ts / 16))
 
 -- the hold that stands first in two words
-abbrev pub firstHold : (sections threads : ℕ) → state.Hold
-firstHold ss ts = hold (ss % 16) (ts % 16)
+abbrev pub first_hold : (sections threads : ℕ) → state.Hold
+first_hold ss ts = hold (ss % 16) (ts % 16)
 
 -- a thread's hold, and a hold of a section
-abbrev pub isOfThread : (thread : ℕ) → state.Hold → Bool
-isOfThread t h = eqb h.thread t
+abbrev pub is_of_thread : (thread : ℕ) → state.Hold → Bool
+is_of_thread t h = eqb h.thread t
 
-abbrev pub isOfSection : (section : ℕ) → state.Hold → Bool
-isOfSection s h = eqb h.section s
+abbrev pub is_of_section : (section : ℕ) → state.Hold → Bool
+is_of_section s h = eqb h.section s
 
 -- whatever h makes of the holds that are left, in a turn and at the end of the loop
 module _ {ℓ} {R : Type ℓ} (h : List state.Hold → R) (n ss ts : ℕ) where
-  pub turn : 0 < n → h (heldIn n ss ts) ≡ h (firstHold ss ts ∷ heldIn (n - 1) (ss / 16) (ts / 16))
-  turn k = let z : n ≡ suc (n - 1) = omega arith in ap (λ m. h (heldIn m ss ts)) z
+  pub turn : 0 < n → h (held_in n ss ts) ≡ h (first_hold ss ts ∷ held_in (n - 1) (ss / 16) (ts / 16))
+  turn k = let z : n ≡ suc (n - 1) = omega arith in ap (λ m. h (held_in m ss ts)) z
 
-  pub done : n ≤ 0 → h (heldIn n ss ts) ≡ h []
-  done k = let z : n ≡ 0 = omega arith in ap (λ m. h (heldIn m ss ts)) z
+  pub done : n ≤ 0 → h (held_in n ss ts) ≡ h []
+  done k = let z : n ≡ 0 = omega arith in ap (λ m. h (held_in m ss ts)) z
 
 -- a loop that asks whether any passes: whether any that is left passes is whether any of the list passes
 module _ (p : state.Hold → Bool) (l : List state.Hold) where
   abbrev pub AnyLeft : (n ss ts : ℕ) → Type 0
-  AnyLeft n ss ts = any p (heldIn n ss ts) ≡ any p l
+  AnyLeft n ss ts = any p (held_in n ss ts) ≡ any p l
 
   module _ (n ss ts : ℕ) (k : 0 < n) (inv : AnyLeft n ss ts) where
-    turned : p (firstHold ss ts) || any p (heldIn (n - 1) (ss / 16) (ts / 16)) ≡ any p l
+    turned : p (first_hold ss ts) || any p (held_in (n - 1) (ss / 16) (ts / 16)) ≡ any p l
     turned = sym (turn (any p) n ss ts k) ∙ inv
 
-    pub missed : p (firstHold ss ts) ≡ false → AnyLeft (n - 1) (ss / 16) (ts / 16)
+    pub missed : p (first_hold ss ts) ≡ false → AnyLeft (n - 1) (ss / 16) (ts / 16)
     missed e = rw e at turned
 
-    pub found : p (firstHold ss ts) ≡ true → false ≡ not (any p l)
+    pub found : p (first_hold ss ts) ≡ true → false ≡ not (any p l)
     found e = ap not (rw e at turned)
 
   pub none_found : (n ss ts : ℕ) → n ≤ 0 → AnyLeft n ss ts → true ≡ not (any p l)
   none_found n ss ts k inv = ap not (sym (done (any p) n ss ts k) ∙ inv)
 
 -- how often a section is held is how often it stands in the sections' word
-pub section-times : (s n ss ts : ℕ) → times (isOfSection s) (heldIn n ss ts) ≡ times (λ u. eqb u s) (nibbles n ss)
-section-times s zero ss ts = refl
-section-times s (suc n) ss ts = go (eqb (ss % 16) s) (section-times s n (ss / 16) (ts / 16))
+pub section_times : (s n ss ts : ℕ) → times (is_of_section s) (held_in n ss ts) ≡ times (λ u. eqb u s) (nibbles n ss)
+section_times s zero ss ts = refl
+section_times s (suc n) ss ts = go (eqb (ss % 16) s) (section_times s n (ss / 16) (ts / 16))
   where
-    go : (b : Bool) → times (isOfSection s) (heldIn n (ss / 16) (ts / 16)) ≡ times (λ u. eqb u s) (nibbles n (ss / 16))
-        → length (cond b (firstHold ss ts ∷ filter (isOfSection s) (heldIn n (ss / 16) (ts / 16))) (filter (isOfSection s) (heldIn n (ss / 16) (ts / 16))))
+    go : (b : Bool) → times (is_of_section s) (held_in n (ss / 16) (ts / 16)) ≡ times (λ u. eqb u s) (nibbles n (ss / 16))
+        → length (cond b (first_hold ss ts ∷ filter (is_of_section s) (held_in n (ss / 16) (ts / 16))) (filter (is_of_section s) (held_in n (ss / 16) (ts / 16))))
         ≡ length (cond b (ss % 16 ∷ filter (λ u. eqb u s) (nibbles n (ss / 16))) (filter (λ u. eqb u s) (nibbles n (ss / 16))))
     go true e = ap suc e
     go false e = e
@@ -149,44 +149,44 @@ module _ (f : state.Hold → ℕ) (a b : state.Hold) (l : List state.Hold) where
   pair_of : {o o' : Option state.Hold} {n n' : ℕ} → o ≡ o' → n ≡ n' → ◌≡◌ {A = Top} (record { owner = map (λ (h : state.Hold). h.thread) o; ceiling = n }) (record { owner = map (λ (h : state.Hold). h.thread) o'; ceiling = n' })
   pair_of e d i = record { owner = map (λ (h : state.Hold). h.thread) (e i); ceiling = d i }
 
-  top-later : f a < f b → walkBy f (a ∷ b ∷ l) ≡ walkBy f (b ∷ l)
-  unfolding walkBy
-  top-later k = pair_of (best-later f a b l k) (omega arith)
+  top_later : f a < f b → walk_by f (a ∷ b ∷ l) ≡ walk_by f (b ∷ l)
+  unfolding walk_by
+  top_later k = pair_of (best_later f a b l k) (omega arith)
 
-  top-earlier : f b ≤ f a → walkBy f (a ∷ b ∷ l) ≡ walkBy f (a ∷ l)
-  unfolding walkBy
-  top-earlier k = pair_of (best-earlier f a b l k) (omega arith)
+  top_earlier : f b ≤ f a → walk_by f (a ∷ b ∷ l) ≡ walk_by f (a ∷ l)
+  unfolding walk_by
+  top_earlier k = pair_of (best_earlier f a b l k) (omega arith)
 
 -- a loop that keeps the owner so far and its ceiling; a thread's number is below 255, which stands for none yet
 module _ (f : state.Hold → ℕ) (l : List state.Hold) where
   abbrev pub TopLeft : (n ss ts owner top : ℕ) → Type 0
   TopLeft n ss ts owner top =
-      ((owner ≡ 255) × (top ≡ 0) × (walkBy f (heldIn n ss ts) ≡ walkBy f l))
-      ⊎ ((h : state.Hold) × (h.thread ≡ owner) × (owner < 255) × (f h ≡ top) × (walkBy f (h ∷ heldIn n ss ts) ≡ walkBy f l))
+      ((owner ≡ 255) × (top ≡ 0) × (walk_by f (held_in n ss ts) ≡ walk_by f l))
+      ⊎ ((h : state.Hold) × (h.thread ≡ owner) × (owner < 255) × (f h ≡ top) × (walk_by f (h ∷ held_in n ss ts) ≡ walk_by f l))
 
   module _ (n ss ts owner top : ℕ) (k : 0 < n) where
-    pub top-new : TopLeft n ss ts owner top → (owner ≡ 255) ⊎ (top < f (firstHold ss ts)) → TopLeft (n - 1) (ss / 16) (ts / 16) (ts % 16) (f (firstHold ss ts))
-    top-new (inl (w, z, e)) g = inr (firstHold ss ts, refl, omega arith, refl, sym (turn (walkBy f) n ss ts k) ∙ e)
-    top-new (inr (h, w, b, v, e)) (inl g) = absurd (omega arith)
-    top-new (inr (h, w, b, v, e)) (inr g) =
+    pub top_new : TopLeft n ss ts owner top → (owner ≡ 255) ⊎ (top < f (first_hold ss ts)) → TopLeft (n - 1) (ss / 16) (ts / 16) (ts % 16) (f (first_hold ss ts))
+    top_new (inl (w, z, e)) g = inr (first_hold ss ts, refl, omega arith, refl, sym (turn (walk_by f) n ss ts k) ∙ e)
+    top_new (inr (h, w, b, v, e)) (inl g) = absurd (omega arith)
+    top_new (inr (h, w, b, v, e)) (inr g) =
         inr (
-          firstHold ss ts,
+          first_hold ss ts,
           refl,
           omega arith,
           refl,
-          sym (turn (λ r. walkBy f (h ∷ r)) n ss ts k ∙ top-later f h (firstHold ss ts) (heldIn (n - 1) (ss / 16) (ts / 16)) (omega arith)) ∙ e,
+          sym (turn (λ r. walk_by f (h ∷ r)) n ss ts k ∙ top_later f h (first_hold ss ts) (held_in (n - 1) (ss / 16) (ts / 16)) (omega arith)) ∙ e,
         )
 
-    pub top-stays : TopLeft n ss ts owner top → owner ≢ 255 → f (firstHold ss ts) ≤ top → TopLeft (n - 1) (ss / 16) (ts / 16) owner top
-    top-stays (inl (w, z, e)) d g = absurd (d w)
-    top-stays (inr (h, w, b, v, e)) d g =
-        inr (h, w, b, v, sym (turn (λ r. walkBy f (h ∷ r)) n ss ts k ∙ top-earlier f h (firstHold ss ts) (heldIn (n - 1) (ss / 16) (ts / 16)) (omega arith)) ∙ e)
+    pub top_stays : TopLeft n ss ts owner top → owner ≢ 255 → f (first_hold ss ts) ≤ top → TopLeft (n - 1) (ss / 16) (ts / 16) owner top
+    top_stays (inl (w, z, e)) d g = absurd (d w)
+    top_stays (inr (h, w, b, v, e)) d g =
+        inr (h, w, b, v, sym (turn (λ r. walk_by f (h ∷ r)) n ss ts k ∙ top_earlier f h (first_hold ss ts) (held_in (n - 1) (ss / 16) (ts / 16)) (omega arith)) ∙ e)
 
-  pub top-found : (n ss ts owner top : ℕ) → n ≤ 0 → TopLeft n ss ts owner top → top_of (record { owner = owner; ceiling = top }) ≡ walkBy f l
-  unfolding walkBy
-  top-found n ss ts owner top k (inl (w, z, e)) = rw (w, z) (sym (done (walkBy f) n ss ts k) ∙ e)
-  top-found n ss ts owner top k (inr (h, w, b, v, e)) =
-      rw (ne_eqb owner 255 (λ z. omega arith), ← w, ← v) (ap (λ (c : ℕ). record { owner = some h.thread; ceiling = c }) (omega arith) ∙ sym (done (λ r. walkBy f (h ∷ r)) n ss ts k) ∙ e)
+  pub top_found : (n ss ts owner top : ℕ) → n ≤ 0 → TopLeft n ss ts owner top → top_of (record { owner = owner; ceiling = top }) ≡ walk_by f l
+  unfolding walk_by
+  top_found n ss ts owner top k (inl (w, z, e)) = rw (w, z) (sym (done (walk_by f) n ss ts k) ∙ e)
+  top_found n ss ts owner top k (inr (h, w, b, v, e)) =
+      rw (ne_eqb owner 255 (λ z. omega arith), ← w, ← v) (ap (λ (c : ℕ). record { owner = some h.thread; ceiling = c }) (omega arith) ∙ sym (done (λ r. walk_by f (h ∷ r)) n ss ts k) ∙ e)
 
 -- sections and threads, one hold for each two
 abbrev pairs : (sections threads : List ℕ) → List state.Hold
@@ -194,37 +194,37 @@ pairs [] ts = []
 pairs (s ∷ ss) [] = []
 pairs (s ∷ ss) (t ∷ ts) = hold s t ∷ pairs ss ts
 
-paired : (n ss ts : ℕ) → heldIn n ss ts ≡ pairs (nibbles n ss) (nibbles n ts)
+paired : (n ss ts : ℕ) → held_in n ss ts ≡ pairs (nibbles n ss) (nibbles n ts)
 paired zero ss ts = refl
-paired (suc n) ss ts = ap (λ l. firstHold ss ts ∷ l) (paired n (ss / 16) (ts / 16))
+paired (suc n) ss ts = ap (λ l. first_hold ss ts ∷ l) (paired n (ss / 16) (ts / 16))
 
-pairs-more : (n ss ts s t : ℕ) → pairs (nibbles n ss ++ (s ∷ [])) (nibbles n ts ++ (t ∷ [])) ≡ heldIn n ss ts ++ (hold s t ∷ [])
-pairs-more zero ss ts s t = refl
-pairs-more (suc n) ss ts s t = ap (λ l. firstHold ss ts ∷ l) (pairs-more n (ss / 16) (ts / 16) s t)
+pairs_more : (n ss ts s t : ℕ) → pairs (nibbles n ss ++ (s ∷ [])) (nibbles n ts ++ (t ∷ [])) ≡ held_in n ss ts ++ (hold s t ∷ [])
+pairs_more zero ss ts s t = refl
+pairs_more (suc n) ss ts s t = ap (λ l. first_hold ss ts ∷ l) (pairs_more n (ss / 16) (ts / 16) s t)
 
 -- one more hold in front of the first n, or behind them
 module _ (n ss ts s t : ℕ) (h : s < 16) (k : t < 16) where
-  pub hold-in-front : n < 16 → heldIn (n + 1) (inFront ss s) (inFront ts t) ≡ hold s t ∷ heldIn n ss ts
-  hold-in-front b = paired (n + 1) (inFront ss s) (inFront ts t) ∙ (rw (front_kept n ss s b h, front_kept n ts t b k, paired n ss ts))
+  pub hold_in_front : n < 16 → held_in (n + 1) (in_front ss s) (in_front ts t) ≡ hold s t ∷ held_in n ss ts
+  hold_in_front b = paired (n + 1) (in_front ss s) (in_front ts t) ∙ (rw (front_kept n ss s b h, front_kept n ts t b k, paired n ss ts))
 
-  pub hold-behind : heldIn (n + 1) (withNibble ss n s) (withNibble ts n t) ≡ heldIn n ss ts ++ (hold s t ∷ [])
-  hold-behind = paired (n + 1) (withNibble ss n s) (withNibble ts n t) ∙ (rw (set-behind n ss s h, set-behind n ts t k) (pairs-more n ss ts s t))
+  pub hold_behind : held_in (n + 1) (with_nibble ss n s) (with_nibble ts n t) ≡ held_in n ss ts ++ (hold s t ∷ [])
+  hold_behind = paired (n + 1) (with_nibble ss n s) (with_nibble ts n t) ∙ (rw (set-behind n ss s h, set-behind n ts t k) (pairs_more n ss ts s t))
 
 -- a loop that keeps those that pass: those kept so far, and behind them those left that pass
 module _ (p : state.Hold → Bool) (l : List state.Hold) where
   abbrev pub KeptLeft : (m sections threads n ss ts : ℕ) → Type 0
-  KeptLeft m sections threads n ss ts = heldIn m sections threads ++ filter p (heldIn n ss ts) ≡ filter p l
+  KeptLeft m sections threads n ss ts = held_in m sections threads ++ filter p (held_in n ss ts) ≡ filter p l
 
   module _ (m sections threads n ss ts : ℕ) (k : 0 < n) (inv : KeptLeft m sections threads n ss ts) where
-    turned-filter : heldIn m sections threads ++ filter p (firstHold ss ts ∷ heldIn (n - 1) (ss / 16) (ts / 16)) ≡ filter p l
-    turned-filter = sym (turn (λ r. heldIn m sections threads ++ filter p r) n ss ts k) ∙ inv
+    turned_filter : held_in m sections threads ++ filter p (first_hold ss ts ∷ held_in (n - 1) (ss / 16) (ts / 16)) ≡ filter p l
+    turned_filter = sym (turn (λ r. held_in m sections threads ++ filter p r) n ss ts k) ∙ inv
 
-    pub kept : p (firstHold ss ts) ≡ true → KeptLeft (m + 1) (withNibble sections m (ss % 16)) (withNibble threads m (ts % 16)) (n - 1) (ss / 16) (ts / 16)
-    kept e = rw (hold-behind m sections threads (ss % 16) (ts % 16) (omega arith) (omega arith), append_assoc) (rw e at turned-filter)
+    pub kept : p (first_hold ss ts) ≡ true → KeptLeft (m + 1) (with_nibble sections m (ss % 16)) (with_nibble threads m (ts % 16)) (n - 1) (ss / 16) (ts / 16)
+    kept e = rw (hold_behind m sections threads (ss % 16) (ts % 16) (omega arith) (omega arith), append_assoc) (rw e at turned_filter)
 
-    pub dropped : p (firstHold ss ts) ≡ false → KeptLeft m sections threads (n - 1) (ss / 16) (ts / 16)
-    dropped e = rw e at turned-filter
+    pub dropped : p (first_hold ss ts) ≡ false → KeptLeft m sections threads (n - 1) (ss / 16) (ts / 16)
+    dropped e = rw e at turned_filter
 
-  pub all-kept : (m sections threads n ss ts : ℕ) → n ≤ 0 → KeptLeft m sections threads n ss ts → heldIn m sections threads ≡ filter p l
-  all-kept m sections threads n ss ts k inv =
-      sym (append-nil (heldIn m sections threads)) ∙ sym (done (λ r. heldIn m sections threads ++ filter p r) n ss ts k) ∙ inv
+  pub all_kept : (m sections threads n ss ts : ℕ) → n ≤ 0 → KeptLeft m sections threads n ss ts → held_in m sections threads ≡ filter p l
+  all_kept m sections threads n ss ts k inv =
+      sym (append-nil (held_in m sections threads)) ∙ sym (done (λ r. held_in m sections threads ++ filter p r) n ss ts k) ∙ inv

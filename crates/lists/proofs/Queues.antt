@@ -11,13 +11,13 @@ use borrow.Author.Tests.{lt-ltb, le-ltb, eq-eqb, ne_eqb}
 use lib.Dec.{T, eqb, ltb, ltb→lt, nltb→le}
 use lib.ListN.{length, set}
 use lib.Seq.{get_or-set_same, get_or-set_other}
-use Rattle.model.specs.Searches.{filter, better, firstGreatest}
+use Rattle.model.specs.Searches.{filter, better, first_greatest}
 use Rattle.model.specs.Formed.{times}
 use Rattle.model.proofs.Tests.{split, is_true, is_false, equal?}
-use Rattle.lists.specs.Words.{nibble, withNibble, nibbles, entry_of}
-use Rattle.lists.specs.Lists.{numbered, currentIn}
-use Rattle.lists.proofs.Holdings.{times-bound}
-use Rattle.lists.proofs.Words.{read_set, read-other}
+use Rattle.lists.specs.Words.{nibble, with_nibble, nibbles, entry_of}
+use Rattle.lists.specs.Lists.{numbered, current_in}
+use Rattle.lists.proofs.Holdings.{times_bound}
+use Rattle.lists.proofs.Words.{read_set, read_other}
 
 -- a turn takes the first of those that are left
 pub first : (left rest : ℕ) → 0 < left → nibbles left rest ≡ rest % 16 ∷ nibbles (left - 1) (rest / 16)
@@ -56,17 +56,17 @@ module _ (f : ℕ → ℕ) where
         go (inr x) = rw (is_false (ltb (f a) (f b)) x, le-ltb top (f a) k, le-ltb top (f b) (omega (arith, nltb→le (f a) (f b) x)))
 
   -- nobody, with 0, gives way to anyone of a value above 0
-  pub nobody : (l : List ℕ) → ((a : ℕ) → Mem a l → 0 < f a) → overtaken 255 0 (firstGreatest f l) ≡ numbered (firstGreatest f l)
+  pub nobody : (l : List ℕ) → ((a : ℕ) → Mem a l → 0 < f a) → overtaken 255 0 (first_greatest f l) ≡ numbered (first_greatest f l)
   nobody [] k = refl
-  nobody (a ∷ l) k = replaced 255 0 a (firstGreatest f l) (k a (here refl)) ∙ go (firstGreatest f l)
+  nobody (a ∷ l) k = replaced 255 0 a (first_greatest f l) (k a (here refl)) ∙ go (first_greatest f l)
     where
       go : (o : Option ℕ) → overtaken a (f a) o ≡ better f a o
       go none = refl
       go (some b) = refl
 
 -- a current priority is at least the base
-pub base-current : (base : ℕ → ℕ) (owner urgency t : ℕ) → base t ≤ currentIn base owner urgency t
-base-current base owner urgency t = go (eqb owner t)
+pub base_current : (base : ℕ → ℕ) (owner urgency t : ℕ) → base t ≤ current_in base owner urgency t
+base_current base owner urgency t = go (eqb owner t)
   where
     go : (b : Bool) → base t ≤ cond b (max (base t) urgency) (base t)
     go true = omega arith
@@ -83,15 +83,15 @@ counted found l k t h = go (equal? k t)
 
 -- and one that counts it at its place of a word
 pub marked : (w : ℕ) (l : List ℕ) (k t : ℕ) → nibble w k + 1 < 16
-    → nibble (withNibble w k (nibble w k + 1)) t + times (λ u. eqb u t) l ≡ nibble w t + times (λ u. eqb u t) (k ∷ l)
+    → nibble (with_nibble w k (nibble w k + 1)) t + times (λ u. eqb u t) l ≡ nibble w t + times (λ u. eqb u t) (k ∷ l)
 marked w l k t h = go (equal? k t)
   where
-    go : (k ≡ t) ⊎ (k ≢ t) → nibble (withNibble w k (nibble w k + 1)) t + times (λ u. eqb u t) l ≡ nibble w t + times (λ u. eqb u t) (k ∷ l)
+    go : (k ≡ t) ⊎ (k ≢ t) → nibble (with_nibble w k (nibble w k + 1)) t + times (λ u. eqb u t) l ≡ nibble w t + times (λ u. eqb u t) (k ∷ l)
     go (inl e) = rw (sym e, eq-eqb k k refl) (omega (arith, read_set w k (nibble w k + 1) h))
-    go (inr n) = rw (ne_eqb k t n) (ap (λ x. x + times (λ u. eqb u t) l) (read-other w k t (nibble w k + 1) h (λ e. n (sym e))))
+    go (inr n) = rw (ne_eqb k t n) (ap (λ x. x + times (λ u. eqb u t) l) (read_other w k t (nibble w k + 1) h (λ e. n (sym e))))
 
-pub times-within : (f : ℕ → Bool) (n w : ℕ) → times f (nibbles n w) ≤ n
-times-within f n w = omega (arith, times-bound f (nibbles n w), length-nibbles n w)
+pub times_within : (f : ℕ → Bool) (n w : ℕ) → times f (nibbles n w) ≤ n
+times_within f n w = omega (arith, times_bound f (nibbles n w), length-nibbles n w)
 
 module _ {A : Type 0} where
   filter-append : (f : A → Bool) (l m : List A) → filter f (l ++ m) ≡ filter f l ++ filter f m
@@ -106,5 +106,5 @@ module _ {A : Type 0} where
   pub filter-kept : (f : A → Bool) (l : List A) (a : A) → f a ≡ true → filter f (l ++ (a ∷ [])) ≡ filter f l ++ (a ∷ [])
   filter-kept f l a e = filter-append f l (a ∷ []) ∙ (rw e)
 
-  pub filter-dropped : (f : A → Bool) (l : List A) (a : A) → f a ≡ false → filter f (l ++ (a ∷ [])) ≡ filter f l
-  filter-dropped f l a e = filter-append f l (a ∷ []) ∙ (rw e (append-nil (filter f l)))
+  pub filter_dropped : (f : A → Bool) (l : List A) (a : A) → f a ≡ false → filter f (l ++ (a ∷ [])) ≡ filter f l
+  filter_dropped f l a e = filter-append f l (a ∷ []) ∙ (rw e (append-nil (filter f l)))

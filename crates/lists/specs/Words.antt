@@ -6,12 +6,12 @@ abbrev pub nibble : (word place : ℕ) → ℕ
 nibble w k = w / 2 ^ (4 * k) % 16
 
 -- the word with another number at a place
-abbrev pub withNibble : (word place value : ℕ) → ℕ
-withNibble w k v = (w - nibble w k * 2 ^ (4 * k)) + v * 2 ^ (4 * k)
+abbrev pub with_nibble : (word place value : ℕ) → ℕ
+with_nibble w k v = (w - nibble w k * 2 ^ (4 * k)) + v * 2 ^ (4 * k)
 
 -- the word with one more number in front; the last of sixteen goes
-abbrev pub inFront : (word value : ℕ) → ℕ
-inFront w v = w % 2 ^ 60 * 16 + v
+abbrev pub in_front : (word value : ℕ) → ℕ
+in_front w v = w % 2 ^ 60 * 16 + v
 
 -- the first numbers of a word, in order
 abbrev pub nibbles : (count word : ℕ) → List ℕ

@@ -2,13 +2,13 @@
 ghost use Rattle.std.specs.Prelude.{◌≡◌, not, ◌&&◌, [], ◌∷◌, ◌≤◌, ◌<◌, ltb};
 ghost use Rattle.std.proofs.Math.Option.{none};
 ghost use Rattle.model.specs.Searches.{all, filter};
-ghost use Rattle.model.specs.State.{hold, isHold};
-ghost use Rattle.model.specs.Calls.{heldByOthers};
-ghost use Rattle.model.specs.Rules.{holdsNone, holdsNot, lastTaken};
-ghost use Rattle.model.specs.Formed.{holdInRange, times, heldOnce};
-ghost use Rattle.keeping.specs.Top.{walkBy, gained};
-ghost use Rattle.lists.specs.Words.{inFront};
-ghost use Rattle.lists.specs.Lists.{numbered, held, ceilingIn, top_of};
+ghost use Rattle.model.specs.State.{hold, is_hold};
+ghost use Rattle.model.specs.Calls.{held_by_others};
+ghost use Rattle.model.specs.Rules.{holds_none, holds_not, last_taken};
+ghost use Rattle.model.specs.Formed.{hold_in_range, times, held_once};
+ghost use Rattle.keeping.specs.Top.{walk_by, gained};
+ghost use Rattle.lists.specs.Words.{in_front};
+ghost use Rattle.lists.specs.Lists.{numbered, held, ceiling_in, top_of};
 
 use crate::nibbles::{nibble_at, with_nibble};
 use crate::top::Top;
@@ -27,7 +27,7 @@ pub struct Holds {
 // The word with one more number in front; the last of sixteen goes.
 fn in_front(word: u64, value: u8) -> u64
     requires { value < 16 }
-    ensures { result ≡ inFront word value }
+    ensures { result ≡ in_front word value }
 {
     let kept = word % 1152921504606846976;
     kept * 16 + (value as u64)
@@ -68,8 +68,8 @@ impl Holds {
     // The hold of this section by this thread ends; the others stay in their order. They are walked over to find the owner: in a state that came from outside it
     // need not be the holder of the latest.
     pub fn without(self, ceilings: &[u8; 16], section: u8, thread: u8) -> Holds
-        requires { (self.count ≤ 16) × (times (isHold section thread) (held self) ≤ 1) }
-        ensures { (held result ≡ filter (λ h. not (isHold section thread h)) (held self)) × (top_of result.top ≡ walkBy (ceilingIn ceilings.now) (held result)) }
+        requires { (self.count ≤ 16) × (times (is_hold section thread) (held self) ≤ 1) }
+        ensures { (held result ≡ filter (λ h. not (is_hold section thread h)) (held self)) × (top_of result.top ≡ walk_by (ceiling_in ceilings.now) (held result)) }
     {
         let mut left = self.ended(section, thread);
         let top = left.walk(ceilings);
@@ -79,8 +79,8 @@ impl Holds {
 
     // All but the hold of this section by this thread, which is the latest of all in every run. The owner stays as it was.
     fn ended(self, section: u8, thread: u8) -> Holds
-        requires { (self.count ≤ 16) × (times (isHold section thread) (held self) ≤ 1) }
-        ensures { held result ≡ filter (λ h. not (isHold section thread h)) (held self) }
+        requires { (self.count ≤ 16) × (times (is_hold section thread) (held self) ≤ 1) }
+        ensures { held result ≡ filter (λ h. not (is_hold section thread h)) (held self) }
     {
         let s = (self.sections % 16) as u8;
         let t = (self.threads % 16) as u8;
@@ -102,7 +102,7 @@ impl Holds {
     // All but the hold of this section by this thread.
     fn others(self, section: u8, thread: u8) -> Holds
         requires { self.count ≤ 16 }
-        ensures { held result ≡ filter (λ h. not (isHold section thread h)) (held self) }
+        ensures { held result ≡ filter (λ h. not (is_hold section thread h)) (held self) }
     {
         let top = self.top;
         let mut ss = self.sections;
@@ -134,7 +134,7 @@ impl Holds {
     // The owner and the greatest held ceiling, found by a walk: see keeping, Top.walk.
     pub fn walk(self, ceilings: &[u8; 16]) -> Top
         requires { self.count ≤ 16 }
-        ensures { top_of result ≡ walkBy (ceilingIn ceilings.now) (held self) }
+        ensures { top_of result ≡ walk_by (ceiling_in ceilings.now) (held self) }
     {
         let all = *ceilings;
         let mut ss = self.sections;
@@ -163,7 +163,7 @@ impl Holds {
     // Whether a base priority is above every ceiling held by others than this thread.
     pub fn clear(self, ceilings: &[u8; 16], thread: u8, base: u8) -> bool
         requires { self.count ≤ 16 }
-        ensures { result ≡ all (λ h. ltb (ceilingIn ceilings.now h) base) (heldByOthers thread (held self)) }
+        ensures { result ≡ all (λ h. ltb (ceiling_in ceilings.now h) base) (held_by_others thread (held self)) }
     {
         let all = *ceilings;
         let mut ss = self.sections;
@@ -187,7 +187,7 @@ impl Holds {
     // The section that a thread took last of those it still holds, 255 if it holds none.
     pub fn last_taken(self, thread: u8) -> u8
         requires { self.count ≤ 16 }
-        ensures { result ≡ numbered (lastTaken (held self) thread) }
+        ensures { result ≡ numbered (last_taken (held self) thread) }
     {
         let mut ss = self.sections;
         let mut ts = self.threads;
@@ -208,7 +208,7 @@ impl Holds {
     // Whether a thread holds no section.
     pub fn free(self, thread: u8) -> bool
         requires { self.count ≤ 16 }
-        ensures { result ≡ holdsNone (held self) thread }
+        ensures { result ≡ holds_none (held self) thread }
     {
         let mut ts = self.threads;
         let mut left = self.count;
@@ -226,7 +226,7 @@ impl Holds {
     // Whether a thread does not hold this section.
     pub fn lacks(self, section: u8, thread: u8) -> bool
         requires { self.count ≤ 16 }
-        ensures { result ≡ holdsNot (held self) section thread }
+        ensures { result ≡ holds_not (held self) section thread }
     {
         let mut ss = self.sections;
         let mut ts = self.threads;
@@ -246,7 +246,7 @@ impl Holds {
 
     // Whether no section is held twice: each is noted in a word when it is first met.
     pub fn once(self, sections: usize) -> bool
-        ensures { result ≡ heldOnce sections (held self) }
+        ensures { result ≡ held_once sections (held self) }
     {
         let mut met: u64 = 0;
         let mut rest = self.sections;
@@ -268,7 +268,7 @@ impl Holds {
     // Whether each hold is of a section and a thread of the plan.
     pub fn in_range(self, threads: usize, sections: usize) -> bool
         requires { self.count ≤ 16 }
-        ensures { result ≡ all (holdInRange threads sections) (held self) }
+        ensures { result ≡ all (hold_in_range threads sections) (held self) }
     {
         let mut ss = self.sections;
         let mut ts = self.threads;

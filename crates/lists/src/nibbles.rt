@@ -2,7 +2,7 @@
 ghost use Rattle.std.specs.Prelude.{◌≡◌, map, ℕ, ◌+◌, ◌≤◌, ◌<◌, eqb, replicate};
 ghost use Rattle.model.specs.Searches.{up_to};
 ghost use Rattle.model.specs.Formed.{times};
-ghost use Rattle.lists.specs.Words.{nibble, withNibble, nibbles};
+ghost use Rattle.lists.specs.Words.{nibble, with_nibble, nibbles};
 
 // The number at a place.
 pub fn nibble_at(word: u64, place: u8) -> u8
@@ -17,7 +17,7 @@ pub fn nibble_at(word: u64, place: u8) -> u8
 // The word with another number at a place.
 pub fn with_nibble(word: u64, place: u8, value: u8) -> u64
     requires { (place < 16) × (value < 16) }
-    ensures { result ≡ withNibble word place value }
+    ensures { result ≡ with_nibble word place value }
 {
     let by = 4 * (place as u64);
     let old = (word >> by) % 16;

@@ -1,9 +1,9 @@
 // Threads in order: the ready queue (document 01's line), the waits, and the order of Delays (document 02).
 ghost use Rattle.std.specs.Prelude.{◌≡◌, not, ◌&&◌, [], ◌∷◌, ◌++◌, ◌≤◌, ◌<◌, eqb};
-ghost use Rattle.model.specs.Searches.{any, firstGreatest, greatest, without};
-ghost use Rattle.model.specs.Formed.{areThreads, times};
+ghost use Rattle.model.specs.Searches.{any, first_greatest, greatest, without};
+ghost use Rattle.model.specs.Formed.{are_threads, times};
 ghost use Rattle.lists.specs.Words.{entry_of};
-ghost use Rattle.lists.specs.Lists.{numbered, queued, currentIn, Positive};
+ghost use Rattle.lists.specs.Lists.{numbered, queued, current_in, Positive};
 
 use crate::nibbles::with_nibble;
 use plan::order::greater;
@@ -19,7 +19,7 @@ pub struct Queue {
 // A thread's current priority, where the owner is known (255: nobody) and the greatest base among the waits.
 fn current(bases: [u8; 16], owner: u8, urgency: u8, thread: u8) -> u8
     requires { thread < 16 }
-    ensures { result ≡ currentIn (entry_of bases) owner urgency thread }
+    ensures { result ≡ current_in (entry_of bases) owner urgency thread }
 {
     let t = thread as usize;
     let b = bases[t];
@@ -111,7 +111,7 @@ impl Queue {
     // The first of greatest current priority, 255 if there is none.
     pub fn chosen(self, bases: [u8; 16], owner: u8, urgency: u8) -> u8
         requires { (self.count ≤ 16) × Positive bases (queued self) }
-        ensures { result ≡ numbered (firstGreatest (currentIn (entry_of bases) owner urgency) (queued self)) }
+        ensures { result ≡ numbered (first_greatest (current_in (entry_of bases) owner urgency) (queued self)) }
     {
         let mut raised: u8 = 0;
         if owner < 16 {
@@ -141,7 +141,7 @@ impl Queue {
     // Whether another one has the current priority of this thread.
     pub fn rivalled(self, bases: [u8; 16], owner: u8, urgency: u8, thread: u8) -> bool
         requires { (self.count ≤ 16) × (thread < 16) }
-        ensures { result ≡ any (λ t. not (eqb t thread) && eqb (currentIn (entry_of bases) owner urgency t) (currentIn (entry_of bases) owner urgency thread)) (queued self) }
+        ensures { result ≡ any (λ t. not (eqb t thread) && eqb (current_in (entry_of bases) owner urgency t) (current_in (entry_of bases) owner urgency thread)) (queued self) }
     {
         let c = current(bases, owner, urgency, thread);
         let mut rest = self.items;
@@ -162,7 +162,7 @@ impl Queue {
     // Whether each is the number of a thread.
     pub fn below(self, threads: usize) -> bool
         requires { self.count ≤ 16 }
-        ensures { result ≡ areThreads threads (queued self) }
+        ensures { result ≡ are_threads threads (queued self) }
     {
         let mut rest = self.items;
         let mut left = self.count;

@@ -10,24 +10,24 @@ use Rattle.model.specs.Runs.{moved, step}
 use Rattle.machine.specs.declared.state.State.{State}
 use Rattle.machine.specs.View.{plan_of, view}
 use Rattle.machine.specs.Kept.{kept}
-use Rattle.machine.specs.Contracts.{Ceilings, later, still}
-use Rattle.machine.proofs.Laws.{still-moves}
-use Rattle.dump.specs.Layout.{operand_at, recordOf, recordAt, twoBytes}
-use Rattle.dump.specs.Questions.{operandFits}
-use Rattle.walk.specs.Contracts.{Single, Advances}
-use Rattle.live.specs.Contracts.{Asked}
+use Rattle.machine.specs.Clauses.{Ceilings, later, still}
+use Rattle.machine.proofs.Laws.{still_moves}
+use Rattle.dump.specs.Layout.{operand_at, record_of, record_at, two_bytes}
+use Rattle.dump.specs.Questions.{operand_fits}
+use Rattle.walk.specs.Clauses.{Single, Advances}
+use Rattle.live.specs.Clauses.{Asked}
 
 abbrev pub alone : (kind operand : ℕ) → List ℕ
-alone k n = 1 ∷ 0 ∷ k ∷ twoBytes n
+alone k n = 1 ∷ 0 ∷ k ∷ two_bytes n
 
-operand-alone : (k n : ℕ) → operand_at (alone k n) 0 ≡ n
-operand-alone k n = omega arith
+operand_alone : (k n : ℕ) → operand_at (alone k n) 0 ≡ n
+operand_alone k n = omega arith
 
-pub record-alone : (k n : ℕ) → recordAt (alone k n) 0 ≡ recordOf k n
-record-alone k n = ap (recordOf k) (operand-alone k n)
+pub record_alone : (k n : ℕ) → record_at (alone k n) 0 ≡ record_of k n
+record_alone k n = ap (record_of k) (operand_alone k n)
 
-pub alone-asked : {s : State} {k n : ℕ} → Asked s k n → {ceilings : List ℕ} → Ceilings s.machine ceilings → Single s ceilings (alone k n) 0
-alone-asked {s} {k} {n} a c =
+pub alone_asked : {s : State} {k n : ℕ} → Asked s k n → {ceilings : List ℕ} → Ceilings s.machine ceilings → Single s ceilings (alone k n) 0
+alone_asked {s} {k} {n} a c =
     let m = s.machine in
     record {
       formed' = a.formed';
@@ -35,15 +35,15 @@ alone-asked {s} {k} {n} a c =
       ceilings' = c;
       whole = record { count = omega arith; size = refl };
       within = omega arith;
-      operand' = subst (λ (o : ℕ). T (operandFits m.plan.threads m.plan.sections k o)) (sym (operand-alone k n)) a.operand';
+      operand' = subst (λ (o : ℕ). T (operand_fits m.plan.threads m.plan.sections k o)) (sym (operand_alone k n)) a.operand';
       room = a.room;
     }
 
 -- a Tick at which nothing happens moves the tick number alone
-pub still-advances : {s : State} {k n : ℕ} → Asked s k n → k ≡ 7 → still s ≡ true → {s' : State} → s' ≡ later s → Advances s' 0 s (recordOf k n)
-still-advances {s} {k} {n} a q t {s'} e =
+pub still_advances : {s : State} {k n : ℕ} → Asked s k n → k ≡ 7 → still s ≡ true → {s' : State} → s' ≡ later s → Advances s' 0 s (record_of k n)
+still_advances {s} {k} {n} a q t {s'} e =
     record {
-      outcome = ap (λ (x : State). moved (view x)) e ∙ sym (still-moves s a.formed' a.keeps (a.room q) t) ∙ ap (λ j. step (plan_of s.machine) (view s) (recordOf j n)) (sym q);
+      outcome = ap (λ (x : State). moved (view x)) e ∙ sym (still_moves s a.formed' a.keeps (a.room q) t) ∙ ap (λ j. step (plan_of s.machine) (view s) (record_of j n)) (sym q);
       plan' = ap (λ (x : State). x.machine.plan) e;
       stays = λ d. absurd (d refl);
       keeps = subst (λ (x : State). T (kept x.machine)) (sym e) a.keeps;

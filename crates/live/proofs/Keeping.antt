@@ -11,10 +11,10 @@ use Rattle.model.specs.Plan.{Plan}
 use Rattle.model.specs.Records.{Record}
 use Rattle.model.specs.State.{Hold}
 use Rattle.model.specs.Runs.{Outcome, moved, broke}
-use Rattle.keeping.specs.Top.{walkBy, walk, setBy}
+use Rattle.keeping.specs.Top.{walk_by, walk, set_by}
 use Rattle.keeping.proofs.Laws.{set-moved}
-use Rattle.dump.specs.Layout.{recordOf, kind_of, operandOf}
-use Rattle.live.specs.Watching.{Watched, fresh, refusal, outcomeOf, stored, watchedUnless, after}
+use Rattle.dump.specs.Layout.{record_of, kind_of, operand_of}
+use Rattle.live.specs.Watching.{Watched, fresh, refusal, outcome_of, stored, watched_unless, after}
 use Rattle.live.specs.Stepwise.{walked, steps}
 
 module _ (p : Plan) where
@@ -24,42 +24,42 @@ module _ (p : Plan) where
     top' : w.top ≡ walk p w.state.holds
 
   -- so it does after a live step on anything at all
-  after-keeps : (w : Watched) (kind operand : ℕ) → Keeps w → Keeps (after w kind operand)
+  after_keeps : (w : Watched) (kind operand : ℕ) → Keeps w → Keeps (after w kind operand)
   unfolding after
-  after-keeps w kind operand k = by-question (refusal w kind operand)
+  after_keeps w kind operand k = by_question (refusal w kind operand)
     where
-      by-outcome : (o : Outcome) → outcomeOf w kind operand ≡ o → Keeps (stored w (recordOf kind operand) o)
-      by-outcome (moved st) e =
+      by_outcome : (o : Outcome) → outcome_of w kind operand ≡ o → Keeps (stored w (record_of kind operand) o)
+      by_outcome (moved st) e =
           record {
             plan' = k.plan';
             top' =
-                ap (setBy w.plan (recordOf kind operand) w.state) (k.top' ∙ ap (λ (q : Plan). walk q w.state.holds) (sym k.plan'))
-                ∙ set-moved w.plan w.state (recordOf kind operand) st e
+                ap (set_by w.plan (record_of kind operand) w.state) (k.top' ∙ ap (λ (q : Plan). walk q w.state.holds) (sym k.plan'))
+                ∙ set-moved w.plan w.state (record_of kind operand) st e
                 ∙ ap (λ (q : Plan). walk q st.holds) k.plan';
           }
-      by-outcome (broke n) e = record { plan' = k.plan'; top' = k.top' }
+      by_outcome (broke n) e = record { plan' = k.plan'; top' = k.top' }
 
-      by-rule : (b : Bool) → Keeps (cond b (stored w (recordOf kind operand) (outcomeOf w kind operand)) w)
-      by-rule true = by-outcome (outcomeOf w kind operand) refl
-      by-rule false = k
+      by_rule : (b : Bool) → Keeps (cond b (stored w (record_of kind operand) (outcome_of w kind operand)) w)
+      by_rule true = by_outcome (outcome_of w kind operand) refl
+      by_rule false = k
 
-      by-question : (o : Option ℕ) → Keeps (watchedUnless o (cond (eqb w.rule 0) (stored w (recordOf kind operand) (outcomeOf w kind operand)) w) w)
-      by-question none = by-rule (eqb w.rule 0)
-      by-question (some q) = k
+      by_question : (o : Option ℕ) → Keeps (watched_unless o (cond (eqb w.rule 0) (stored w (record_of kind operand) (outcome_of w kind operand)) w) w)
+      by_question none = by_rule (eqb w.rule 0)
+      by_question (some q) = k
 
   walked_keeps : (w : Watched) (rs : List Record) → Keeps w → Keeps (walked w rs)
   walked_keeps w [] k = k
-  walked_keeps w (r ∷ rs) k = walked_keeps (after w (kind_of r) (operandOf r)) rs (after-keeps w (kind_of r) (operandOf r) k)
+  walked_keeps w (r ∷ rs) k = walked_keeps (after w (kind_of r) (operand_of r)) rs (after_keeps w (kind_of r) (operand_of r) k)
 
   -- at the start nothing is held
   fresh_keeps : Keeps (fresh p)
-  unfolding walkBy
+  unfolding walk_by
   fresh_keeps = record { plan' = refl; top' = refl }
 
   module _ (rs : List Record) (i : ℕ) where
-    pub kept-is-walk : (steps p rs i).top ≡ walk p (steps p rs i).state.holds
-    kept-is-walk = (walked_keeps (fresh p) (take i rs) fresh_keeps).top'
+    pub kept_is_walk : (steps p rs i).top ≡ walk p (steps p rs i).state.holds
+    kept_is_walk = (walked_keeps (fresh p) (take i rs) fresh_keeps).top'
 
-    pub kept-none : (steps p rs i).state.holds ≡ [] → (steps p rs i).top ≡ record { owner = none; ceiling = 0 }
-    unfolding walkBy
-    kept-none e = kept-is-walk ∙ ap (λ (hs : List Hold). walk p hs) e
+    pub kept_none : (steps p rs i).state.holds ≡ [] → (steps p rs i).top ≡ record { owner = none; ceiling = 0 }
+    unfolding walk_by
+    kept_none e = kept_is_walk ∙ ap (λ (hs : List Hold). walk p hs) e

@@ -12,30 +12,30 @@ use lib.Dec.{T, eqb, leb, leb→le, le→leb}
 use lib.ListN.{length, take, drop, take-append-drop}
 use lib.Seq.{take-suc, length-take-le}
 use Rattle.model.specs.Searches.{all}
-use Rattle.model.specs.Plan.{Plan, threads, validPlan}
+use Rattle.model.specs.Plan.{Plan, threads, valid_plan}
 use Rattle.model.specs.Records.{Tick, Record, call, allowed}
 use Rattle.model.specs.State.{State, start}
 use Rattle.model.specs.Runs.{Outcome, moved, broke, step, run, judge}
-use Rattle.model.specs.Formed.{lastTick, formed}
+use Rattle.model.specs.Formed.{last_tick, formed}
 use Rattle.model.proofs.Tests.{is_true, and_left, and_right, and_both, or_right, ne_test}
-use Rattle.model.proofs.Searches.{all-at}
+use Rattle.model.proofs.Searches.{all_at}
 use Rattle.model.proofs.Loops.{listed}
-use Rattle.model.proofs.Laws.{Reached, begin, next, reached-formed, judge-run, counts-fit, tick-at-most, broken-rule, run-ended, run_moved, run-broke}
-use Rattle.keeping.specs.Top.{Top, walkBy, walk, topFits}
-use Rattle.keeping.proofs.Laws.{walk-fits, set-moved}
+use Rattle.model.proofs.Laws.{Reached, begin, next, reached_formed, judge_run, counts_fit, tick_at_most, broken_rule, run_ended, run_moved, run_broke}
+use Rattle.keeping.specs.Top.{Top, walk_by, walk, top_fits}
+use Rattle.keeping.proofs.Laws.{walk_fits, set-moved}
 use Rattle.plan.specs.Bytes.{between, plan_of}
-use Rattle.dump.specs.Layout.{recordCount, kindAt, operand_at, recordAt, decode, kind_of, operandOf}
-use Rattle.dump.specs.Questions.{mostRecords, kindAllowed, operandFits}
-use Rattle.dump.proofs.Laws.{kind-back, operand-back, record-back, operand-fits, fits-kind, decode-length, whole, entry-passes}
-use Rattle.monitor.specs.Answers.{firstRefusal}
+use Rattle.dump.specs.Layout.{record_count, kind_at, operand_at, record_at, decode, kind_of, operand_of}
+use Rattle.dump.specs.Questions.{most_records, kind_allowed, operand_fits}
+use Rattle.dump.proofs.Laws.{kind_back, operand_back, record_back, operand_fits_lem, fits_kind, decode-length, whole, entry_passes}
+use Rattle.monitor.specs.Answers.{first_refusal}
 use Rattle.live.specs.Watching as watching
-use Rattle.live.specs.Watching.{Watched, fresh, broken, isRule, refusal, replyOf, stored, reply, after}
+use Rattle.live.specs.Watching.{Watched, fresh, broken, is_rule, refusal, reply_of, stored, reply, after}
 use Rattle.live.specs.Stepwise.{walked, steps, said}
 use Rattle.monitor.proofs.Laws.{Passed, passed}
 
 -- a broken rule is one that can be stored
-rule-stored : (p : Plan) (st : State) (r : Record) (n : ℕ) → step p st r ≡ broke n → T (between 21 32 n)
-rule-stored p st r n e = let b = broken-rule p st r n e in and_both (leb 21 n) (leb n 32) (le→leb 21 n b.0) (le→leb n 32 b.1)
+rule_stored : (p : Plan) (st : State) (r : Record) (n : ℕ) → step p st r ≡ broke n → T (between 21 32 n)
+rule_stored p st r n e = let b = broken_rule p st r n e in and_both (leb 21 n) (leb n 32) (le→leb 21 n b.0) (le→leb n 32 b.1)
 
 -- a test passed by each of a list is passed by each of its first part; and the last of a list is in it
 
@@ -50,76 +50,76 @@ last : {A : Type 0} {a : A} (l : List A) → Mem a (l ++ a ∷ [])
 last [] = here refl
 last (b ∷ l) = there (last l)
 
-module _ (p : Plan) (v : T (validPlan p)) where
+module _ (p : Plan) (v : T (valid_plan p)) where
   -- no thread has the number of nobody
   few : threads p ≤ 65535
-  few = omega (arith, (counts-fit p v).0)
+  few = omega (arith, (counts_fit p v).0)
 
   -- a watch state with this plan, and what is kept the walk's result
   abbrev with : State → (rule : ℕ) → Watched
   with st m = record { plan = p; state = st; top = walk p st.holds; rule = m }
 
   -- questions 12, 7, 8 and 13 have the answer Yes on an allowed record, in a well-formed state before the last tick number
-  passes : (st : State) (m : ℕ) → T (formed p st) → T (isRule m) → st.tickNumber < lastTick → (r : Record) → T (allowed p r) → refusal (with st m) (kind_of r) (operandOf r) ≡ none
+  passes : (st : State) (m : ℕ) → T (formed p st) → T (is_rule m) → st.tick_number < last_tick → (r : Record) → T (allowed p r) → refusal (with st m) (kind_of r) (operand_of r) ≡ none
   unfolding refusal
   passes st m f i h r a =
-      let fits = operand-fits p r a in
-      let early = not-both (eqb (kind_of r) 7) (eqb st.tickNumber lastTick) (ne_test st.tickNumber lastTick (λ e. omega arith)) in
+      let fits = operand_fits_lem p r a in
+      let early = not_both (eqb (kind_of r) 7) (eqb st.tick_number last_tick) (ne_test st.tick_number last_tick (λ e. omega arith)) in
       rw (
         is_true (formed p st) f,
-        is_true (topFits p st.holds (walk p st.holds)) (walk-fits p st.holds),
-        is_true (isRule m) i,
-        is_true (kindAllowed false (kind_of r)) (fits-kind (threads p) p.sections (kind_of r) (operandOf r) fits),
-        is_true (operandFits (threads p) p.sections (kind_of r) (operandOf r)) fits,
-        is_true (not (eqb (kind_of r) 7 && eqb st.tickNumber lastTick)) early,
+        is_true (top_fits p st.holds (walk p st.holds)) (walk_fits p st.holds),
+        is_true (is_rule m) i,
+        is_true (kind_allowed false (kind_of r)) (fits_kind (threads p) p.sections (kind_of r) (operand_of r) fits),
+        is_true (operand_fits (threads p) p.sections (kind_of r) (operand_of r)) fits,
+        is_true (not (eqb (kind_of r) 7 && eqb st.tick_number last_tick)) early,
       )
     where
-      not-both : (a b : Bool) → T (not b) → T (not (a && b))
-      not-both true b t = t
-      not-both false b t = tt
+      not_both : (a b : Bool) → T (not b) → T (not (a && b))
+      not_both true b t = t
+      not_both false b t = tt
 
-  module _ (st : State) (f : T (formed p st)) (h : st.tickNumber < lastTick) where
+  module _ (st : State) (f : T (formed p st)) (h : st.tick_number < last_tick) where
     -- a step before any breach: of the record that its kind and operand stand for
     module _ (r : Record) (a : T (allowed p r)) where
-      replies : reply (with st 0) (kind_of r) (operandOf r) ≡ replyOf (step p st r)
+      replies : reply (with st 0) (kind_of r) (operand_of r) ≡ reply_of (step p st r)
       unfolding reply
-      replies = rw (passes st 0 f tt h r a, record-back p few r a)
+      replies = rw (passes st 0 f tt h r a, record_back p few r a)
 
-      leaves : after (with st 0) (kind_of r) (operandOf r) ≡ stored (with st 0) r (step p st r)
+      leaves : after (with st 0) (kind_of r) (operand_of r) ≡ stored (with st 0) r (step p st r)
       unfolding after
-      leaves = rw (passes st 0 f tt h r a, record-back p few r a)
+      leaves = rw (passes st 0 f tt h r a, record_back p few r a)
 
     -- the steps after a breach answer its rule, and leave the state as it is
     module _ (m : ℕ) (b : T (between 21 32 m)) where
-      not-zero : eqb m 0 ≡ false
-      not-zero = ne_eqb m 0 (λ e. omega (arith, leb→le 21 m (and_left (leb 21 m) (leb m 32) b)))
+      not_zero : eqb m 0 ≡ false
+      not_zero = ne_eqb m 0 (λ e. omega (arith, leb→le 21 m (and_left (leb 21 m) (leb m 32) b)))
 
-      repeats : (r : Record) → T (allowed p r) → reply (with st m) (kind_of r) (operandOf r) ≡ broken m
+      repeats : (r : Record) → T (allowed p r) → reply (with st m) (kind_of r) (operand_of r) ≡ broken m
       unfolding reply
-      repeats r a = rw (passes st m f (or_right (eqb m 0) _ b) h r a, not-zero)
+      repeats r a = rw (passes st m f (or_right (eqb m 0) _ b) h r a, not_zero)
 
       stays : (rs : List Record) → T (all (allowed p) rs) → walked (with st m) rs ≡ with st m
       unfolding after
       stays [] a = refl
-      stays (r ∷ rs) a = rw (passes st m f (or_right (eqb m 0) _ b) h r (and_left (allowed p r) _ a), not-zero) (stays rs (and_right (allowed p r) _ a))
+      stays (r ∷ rs) a = rw (passes st m f (or_right (eqb m 0) _ b) h r (and_left (allowed p r) _ a), not_zero) (stays rs (and_right (allowed p r) _ a))
 
   -- the steps over a list from a state that runs reach, which has room for as many ticks as there are records
-  stepwise-from : (rs : List Record) (r : Record) (i : ℕ) (st : State) → Reached p st → T (all (allowed p) (rs ++ r ∷ [])) → st.tickNumber + length rs < lastTick
-      → reply (walked (with st 0) rs) (kind_of r) (operandOf r) ≡ said (run p i (rs ++ r ∷ []) st)
-  stepwise-from [] r i st b a h = replies st (reached-formed p v st b (omega arith)) (omega arith) r (and_left (allowed p r) _ a) ∙ go (step p st r) refl
+  stepwise_from : (rs : List Record) (r : Record) (i : ℕ) (st : State) → Reached p st → T (all (allowed p) (rs ++ r ∷ [])) → st.tick_number + length rs < last_tick
+      → reply (walked (with st 0) rs) (kind_of r) (operand_of r) ≡ said (run p i (rs ++ r ∷ []) st)
+  stepwise_from [] r i st b a h = replies st (reached_formed p v st b (omega arith)) (omega arith) r (and_left (allowed p r) _ a) ∙ go (step p st r) refl
     where
-      go : (o : Outcome) → step p st r ≡ o → replyOf o ≡ said (run p i (r ∷ []) st)
-      go (moved st') q = ap said (sym (run_moved p i r [] st st' q ∙ run-ended p (suc i) st'))
-      go (broke n) q = ap said (sym (run-broke p i r [] st n q))
-  stepwise-from (s ∷ rs) r i st b a h =
-      ap (λ w. reply (walked w rs) (kind_of r) (operandOf r)) (leaves st f k s first)
-      ∙ go (step p st s) refl (λ st' c l. stepwise-from rs r (suc i) st' c rest l)
+      go : (o : Outcome) → step p st r ≡ o → reply_of o ≡ said (run p i (r ∷ []) st)
+      go (moved st') q = ap said (sym (run_moved p i r [] st st' q ∙ run_ended p (suc i) st'))
+      go (broke n) q = ap said (sym (run_broke p i r [] st n q))
+  stepwise_from (s ∷ rs) r i st b a h =
+      ap (λ w. reply (walked w rs) (kind_of r) (operand_of r)) (leaves st f k s first)
+      ∙ go (step p st s) refl (λ st' c l. stepwise_from rs r (suc i) st' c rest l)
     where
-      k : st.tickNumber < lastTick
+      k : st.tick_number < last_tick
       k = omega arith
 
       f : T (formed p st)
-      f = reached-formed p v st b (omega arith)
+      f = reached_formed p v st b (omega arith)
 
       first : T (allowed p s)
       first = and_left (allowed p s) _ a
@@ -128,31 +128,31 @@ module _ (p : Plan) (v : T (validPlan p)) where
       rest = and_right (allowed p s) _ a
 
       go : (o : Outcome) → step p st s ≡ o
-          → ((st' : State) → Reached p st' → st'.tickNumber + length rs < lastTick → reply (walked (with st' 0) rs) (kind_of r) (operandOf r) ≡ said (run p (suc i) (rs ++ r ∷ []) st'))
-          → reply (walked (stored (with st 0) s o) rs) (kind_of r) (operandOf r) ≡ said (run p i (s ∷ rs ++ r ∷ []) st)
+          → ((st' : State) → Reached p st' → st'.tick_number + length rs < last_tick → reply (walked (with st' 0) rs) (kind_of r) (operand_of r) ≡ said (run p (suc i) (rs ++ r ∷ []) st'))
+          → reply (walked (stored (with st 0) s o) rs) (kind_of r) (operand_of r) ≡ said (run p i (s ∷ rs ++ r ∷ []) st)
       go (moved st') q ih =
-          ap (λ (t : Top). reply (walked (record { plan = p; state = st'; top = t; rule = 0 }) rs) (kind_of r) (operandOf r)) (set-moved p st s st' q)
-          ∙ ih st' (next s b first q) (omega (arith, tick-at-most p st b s st' q)) ∙ ap said (sym (run_moved p i s (rs ++ r ∷ []) st st' q))
+          ap (λ (t : Top). reply (walked (record { plan = p; state = st'; top = t; rule = 0 }) rs) (kind_of r) (operand_of r)) (set-moved p st s st' q)
+          ∙ ih st' (next s b first q) (omega (arith, tick_at_most p st b s st' q)) ∙ ap said (sym (run_moved p i s (rs ++ r ∷ []) st st' q))
       go (broke n) q ih =
-          ap (λ w. reply w (kind_of r) (operandOf r)) (stays st f k n (rule-stored p st s n q) rs (all_left (allowed p) rs (r ∷ []) rest))
-          ∙ repeats st f k n (rule-stored p st s n q) r (all-at (allowed p) (rs ++ r ∷ []) rest (last rs))
-          ∙ ap said (sym (run-broke p i s (rs ++ r ∷ []) st n q))
+          ap (λ w. reply w (kind_of r) (operand_of r)) (stays st f k n (rule_stored p st s n q) rs (all_left (allowed p) rs (r ∷ []) rest))
+          ∙ repeats st f k n (rule_stored p st s n q) r (all_at (allowed p) (rs ++ r ∷ []) rest (last rs))
+          ∙ ap said (sym (run_broke p i s (rs ++ r ∷ []) st n q))
 
 -- For every prefix of a list, the reply at its last record is what the whole check says of the prefix.
-pub stepwise : (p : Plan) → T (validPlan p) → (rs : List Record) (r : Record) → T (all (allowed p) (rs ++ r ∷ [])) → length rs < lastTick
-    → reply (walked (fresh p) rs) (kind_of r) (operandOf r) ≡ said (judge p (rs ++ r ∷ []))
-unfolding walkBy
-stepwise p v rs r a h = stepwise-from p v rs r 0 (start p) begin a (omega arith) ∙ ap said (sym (judge-run p (rs ++ r ∷ [])))
+pub stepwise : (p : Plan) → T (valid_plan p) → (rs : List Record) (r : Record) → T (all (allowed p) (rs ++ r ∷ [])) → length rs < last_tick
+    → reply (walked (fresh p) rs) (kind_of r) (operand_of r) ≡ said (judge p (rs ++ r ∷ []))
+unfolding walk_by
+stepwise p v rs r a h = stepwise_from p v rs r 0 (start p) begin a (omega arith) ∙ ap said (sym (judge_run p (rs ++ r ∷ [])))
 
 -- The same of bytes that the whole check does not refuse: the reply at record i is what the whole check says of the records up to it.
-module _ (plan dump : List ℕ) (e : firstRefusal plan dump ≡ none) where
+module _ (plan dump : List ℕ) (e : first_refusal plan dump ≡ none) where
   -- the steps go from the state that is made of the plan's bytes
-  pub begin-fresh : watching.begin plan ≡ fresh (plan_of plan)
+  pub begin_fresh : watching.begin plan ≡ fresh (plan_of plan)
   unfolding watching.begin
-  begin-fresh = rw (passed plan dump e).plan'
+  begin_fresh = rw (passed plan dump e).plan'
 
-  pub stepwise-bytes : (i : ℕ) → i < recordCount dump → reply (steps (plan_of plan) (decode dump) i) (kindAt dump i) (operand_at dump i) ≡ said (judge (plan_of plan) (take (suc i) (decode dump)))
-  stepwise-bytes i h =
+  pub stepwise_bytes : (i : ℕ) → i < record_count dump → reply (steps (plan_of plan) (decode dump) i) (kind_at dump i) (operand_at dump i) ≡ said (judge (plan_of plan) (take (suc i) (decode dump)))
+  stepwise_bytes i h =
       ap (λ k. reply (steps p rs i) k (operand_at dump i)) (sym kind)
       ∙ ap (λ n. reply (steps p rs i) (kind_of r) n) (sym operand)
       ∙ stepwise p c.valid (take i rs) r (subst (λ l. T (all (allowed p) l)) front (all_take (allowed p) (suc i) rs c.operands)) room
@@ -165,25 +165,25 @@ module _ (plan dump : List ℕ) (e : firstRefusal plan dump ≡ none) where
       rs = decode dump
 
       r : Record
-      r = recordAt dump i
+      r = record_at dump i
 
       c : Passed plan dump
       c = passed plan dump e
 
-      size : (length rs ≡ recordCount dump) × (recordCount dump ≤ mostRecords)
+      size : (length rs ≡ record_count dump) × (record_count dump ≤ most_records)
       size = (decode-length dump, (whole (threads p) p.sections false dump c.dump').count)
 
-      room : length (take i rs) < lastTick
+      room : length (take i rs) < last_tick
       room = omega (arith, size, length-take-le i rs (omega (arith, size)))
 
-      fits : T (kindAllowed false (kindAt dump i)) × T (operandFits (threads p) p.sections (kindAt dump i) (operand_at dump i))
-      fits = entry-passes (threads p) p.sections false dump c.dump' i h
+      fits : T (kind_allowed false (kind_at dump i)) × T (operand_fits (threads p) p.sections (kind_at dump i) (operand_at dump i))
+      fits = entry_passes (threads p) p.sections false dump c.dump' i h
 
-      kind : kind_of r ≡ kindAt dump i
-      kind = kind-back (kindAt dump i) (operand_at dump i) fits.0
+      kind : kind_of r ≡ kind_at dump i
+      kind = kind_back (kind_at dump i) (operand_at dump i) fits.0
 
-      operand : operandOf r ≡ operand_at dump i
-      operand = operand-back (threads p) p.sections (kindAt dump i) (operand_at dump i) fits.1
+      operand : operand_of r ≡ operand_at dump i
+      operand = operand_back (threads p) p.sections (kind_at dump i) (operand_at dump i) fits.1
 
       front : take (suc i) rs ≡ take i rs ++ r ∷ []
-      front = take-suc rs i (call Tick) (omega (arith, size)) ∙ ap (λ x. take i rs ++ x ∷ []) (listed (recordAt dump) (recordCount dump) i (call Tick) h)
+      front = take-suc rs i (call Tick) (omega (arith, size)) ∙ ap (λ x. take i rs ++ x ∷ []) (listed (record_at dump) (record_count dump) i (call Tick) h)

@@ -1,4 +1,4 @@
 -- What a reader must believe of this crate: what a live step answers and leaves, and live steps one after another.
 pub mod Watching
-pub mod Contracts
+pub mod Clauses
 pub mod Stepwise

@@ -1,5 +1,5 @@
 // The live step on a watch state that is lent, behind a reference.
-ghost use Rattle.live.specs.Contracts.{Tells};
+ghost use Rattle.live.specs.Clauses.{Tells};
 
 use crate::live::{Reply, Watch, live};
 

@@ -1,14 +1,14 @@
 // The watch state and the live step: one record at a time, on a state that is lent.
 ghost use Rattle.std.specs.Prelude.{◌≡◌, length, ◌<◌};
-ghost use Rattle.model.specs.Formed.{lastTick};
+ghost use Rattle.model.specs.Formed.{last_tick};
 ghost use Rattle.machine.specs.View.{view};
-ghost use Rattle.machine.specs.Contracts.{later};
+ghost use Rattle.machine.specs.Clauses.{later};
 ghost use Rattle.plan.specs.Bytes.{number};
-ghost use Rattle.dump.specs.Layout.{recordOf};
-ghost use Rattle.walk.specs.Contracts.{Advances};
-ghost use Rattle.model.specs.Rules.{firstNo};
-ghost use Rattle.live.specs.Watching.{isRule, recordQuestions, refusal};
-ghost use Rattle.live.specs.Contracts.{Asked, seen, Begins, Tells};
+ghost use Rattle.dump.specs.Layout.{record_of};
+ghost use Rattle.walk.specs.Clauses.{Advances};
+ghost use Rattle.model.specs.Rules.{first_no};
+ghost use Rattle.live.specs.Watching.{is_rule, record_questions, refusal};
+ghost use Rattle.live.specs.Clauses.{Asked, seen, Begins, Tells};
 ghost use Rattle.live.specs.declared.live.Reply.TheVariants as says;
 
 use clock::time::LAST_TICK;
@@ -74,14 +74,14 @@ pub fn begin(plan: &[u8]) -> Begun
 
 // Whether a stored rule is one of the papers', or none.
 fn is_rule(rule: u8) -> bool
-    ensures { result ≡ isRule rule }
+    ensures { result ≡ is_rule rule }
 {
     rule == 0 || (21 <= rule && rule <= 32)
 }
 
 // 7, 8 and 13, in this order: the number of the first No, 0 if there is none.
 fn record_refused(watch: Watch, kind: u8, operand: u16) -> u8
-    ensures { result ≡ number (firstNo (recordQuestions (seen watch) kind operand)) }
+    ensures { result ≡ number (first_no (record_questions (seen watch) kind operand)) }
 {
     if !kind_allowed(false, kind) {
         return 7;
@@ -113,7 +113,7 @@ fn refused(watch: Watch, kind: u8, operand: u16) -> u8
 // One record that passed 12, 7, 8 and 13: a walk over a dump that has it alone.
 fn judged(state: State, kind: u8, operand: u16) -> Stepped
     requires { Asked state kind operand }
-    ensures { Advances result.state result.rule state (recordOf kind operand) }
+    ensures { Advances result.state result.rule state (record_of kind operand) }
 {
     let p = state.machine.plan;
     let all = ceilings(p);
@@ -136,7 +136,7 @@ fn moved(watch: Watch, after: State) -> Told
 
 // A Tick at which nothing happens moves the tick number alone, in the watch state that came: one made anew would be copied.
 fn ticked(watch: Watch) -> Told
-    requires { watch.state.machine.tick.0 < lastTick }
+    requires { watch.state.machine.tick.0 < last_tick }
     ensures { result ≡ record { watch = record { state = later watch.state; rule = watch.rule }; reply = says.Clean (length (view watch.state).due) } }
 {
     let mut w = watch;

@@ -4,21 +4,21 @@ use mathlib.Core.List.{[]}
 use mathlib.Core.Option.{Option, some}
 use Prim.Native.Nat.{ℕ, ◌<◌}
 use lib.Dec.{T}
-use Rattle.model.specs.Plan.{mayTake}
+use Rattle.model.specs.Plan.{may_take}
 use Rattle.model.specs.Records.{Call, call}
 use Rattle.model.specs.State as state
 use Rattle.model.specs.State.{dormant, condition}
 use Rattle.model.specs.Priorities.{chosen}
-use Rattle.model.specs.Calls.{perform, byCaller}
-use Rattle.model.specs.Rules.{holdsNot, lastTaken, stage, broken}
-use Rattle.model.specs.Formed.{lastTick}
+use Rattle.model.specs.Calls.{perform, by_caller}
+use Rattle.model.specs.Rules.{holds_not, last_taken, stage, broken}
+use Rattle.model.specs.Formed.{last_tick}
 use Rattle.lists.specs.Lists.{numbered}
 use Rattle.machine.specs.declared.Machine.{Machine}
 use Rattle.due.specs.declared.reports.Reports.{Reports}
 use Rattle.due.specs.Lists.{owed}
 use Rattle.machine.specs.View.{plan_of, viewed, idle}
 use Rattle.machine.specs.Kept.{kept}
-use Rattle.machine.specs.Rules.{ruleNumber}
+use Rattle.machine.specs.Rules.{rule_number}
 use Rattle.machine.proofs.Facts.{Formed}
 
 -- What each call asks. The caller is the number of the chosen thread, 255 where there is none; an arming has come to the call's place.
@@ -41,7 +41,7 @@ pub record SectionAsked (m : Machine) (caller section : ℕ) : Type 0 where
 pub record TickAsked (m : Machine) : Type 0 where
   pub formed : Formed m
   pub ordered : stage (idle m).timers.arming ≡ 0
-  pub room : m.tick.0 < lastTick
+  pub room : m.tick.0 < last_tick
 
 -- What the rules say.
 
@@ -59,17 +59,17 @@ pub record Runs (m : Machine) (caller : ℕ) : Type 0 where
 pub record Takes (m : Machine) (caller section : ℕ) : Type 0 where
   pub runs : Runs m caller
   pub known : section < m.plan.sections
-  pub needs : T (mayTake (plan_of m) caller section)
-  pub lacks : T (holdsNot (idle m).holds section caller)
+  pub needs : T (may_take (plan_of m) caller section)
+  pub lacks : T (holds_not (idle m).holds section caller)
 
 -- rule 27
 pub record Gives (m : Machine) (caller section : ℕ) : Type 0 where
   pub runs : Runs m caller
-  pub last : lastTaken (idle m).holds caller ≡ some section
+  pub last : last_taken (idle m).holds caller ≡ some section
 
 -- the rule that a call breaks where nothing is due, 0 if there is none
 abbrev pub asked : Machine → Call → ℕ
-asked m k = ruleNumber (broken (plan_of m) (idle m) (call k))
+asked m k = rule_number (broken (plan_of m) (idle m) (call k))
 
 -- What a call leaves before its Switch: a machine and its reports, which stand for this state; the plan is the one that came.
 pub record Meets (left : Machine) (rs : Reports) (m : Machine) (st : state.State) : Type 0 where
@@ -80,7 +80,7 @@ pub record Meets (left : Machine) (rs : Reports) (m : Machine) (st : state.State
 -- The first broken rule, 0 if there is none; then what the model's call makes of the state that came, or this state.
 pub record MakesOf (st : state.State) (left : Machine) (rs : Reports) (rule : ℕ) (m : Machine) (k : Call) : Type 0 where
   pub plan' : left.plan ≡ m.plan
-  pub rule' : rule ≡ ruleNumber (broken (plan_of m) st (call k))
+  pub rule' : rule ≡ rule_number (broken (plan_of m) st (call k))
   pub made : rule ≡ 0 → viewed left (owed rs) ≡ perform (plan_of m) k st
   pub stays : (rule ≡ 0 → ⊥) → viewed left (owed rs) ≡ st
   pub keeps : T (kept left)
@@ -101,5 +101,5 @@ module _ {left : Machine} {rs rs' : Reports} {rule : ℕ} {m : Machine} {k : Cal
   refuses t d a b n = let v = same {m = m} a b (record { plan' = refl; seen = ap (viewed m) n; keeps = t }) in record { plan' = v.plan'; rule' = e; made = λ z. absurd (d z); stays = λ k. v.seen; keeps = v.keeps }
 
 -- what the model's call of the chosen thread does
-pub by : {m : Machine} {x : ℕ} → Runs m x → (act : ℕ → state.State → state.State) → byCaller (chosen (plan_of m) (idle m)) act (idle m) ≡ act x (idle m)
-by {m} c act = ap (λ (o : Option ℕ). byCaller o act (idle m)) c.chosen'
+pub by : {m : Machine} {x : ℕ} → Runs m x → (act : ℕ → state.State → state.State) → by_caller (chosen (plan_of m) (idle m)) act (idle m) ≡ act x (idle m)
+by {m} c act = ap (λ (o : Option ℕ). by_caller o act (idle m)) c.chosen'

@@ -6,9 +6,9 @@ use Prim.Native.Nat.{ℕ}
 use lib.Dec.{T}
 use Rattle.model.specs.Plan.{Plan, ceiling}
 use Rattle.model.specs.State.{Hold, hold}
-use Rattle.model.specs.Priorities.{heldCeiling}
-use Rattle.keeping.specs.Top.{Top, walkBy, walk, topFits, gained}
-use Rattle.keeping.proofs.Laws.{fits-walk, walk-fits, gained-walk}
+use Rattle.model.specs.Priorities.{held_ceiling}
+use Rattle.keeping.specs.Top.{Top, walk_by, walk, top_fits, gained}
+use Rattle.keeping.proofs.Laws.{fits_walk, walk_fits, gained_walk}
 use Rattle.plan.specs.View as plans
 use Rattle.plan.specs.declared.Plan as declared
 use Rattle.lists.specs.declared.holds.Holds.{Holds}
@@ -20,27 +20,27 @@ use Rattle.machine.specs.Kept.{kept}
 module _ (p : Plan) where
   -- these holds have the walk's result beside them
   abbrev pub Keeps : Holds → Type 0
-  Keeps h = T (topFits p (held h) (top_of h.top))
+  Keeps h = T (top_fits p (held h) (top_of h.top))
 
-  pub keeps-walk : (h : Holds) → top_of h.top ≡ walk p (held h) → Keeps h
-  keeps-walk h e = subst (λ (k : Top). T (topFits p (held h) k)) (sym e) (walk-fits p (held h))
+  pub keeps_walk : (h : Holds) → top_of h.top ≡ walk p (held h) → Keeps h
+  keeps_walk h e = subst (λ (k : Top). T (top_fits p (held h) k)) (sym e) (walk_fits p (held h))
 
   -- nothing is held
-  pub keeps-none : (h : Holds) → held h ≡ [] → top_of h.top ≡ record { owner = none; ceiling = 0 } → Keeps h
-  unfolding walkBy
-  keeps-none h e k = keeps-walk h (k ∙ ap (walk p) (sym e))
+  pub keeps_none : (h : Holds) → held h ≡ [] → top_of h.top ≡ record { owner = none; ceiling = 0 } → Keeps h
+  unfolding walk_by
+  keeps_none h e k = keeps_walk h (k ∙ ap (walk p) (sym e))
 
   -- found by a walk with these ceilings
-  pub keeps-walked : {f : Hold → ℕ} (h : Holds) → f ≡ heldCeiling p → top_of h.top ≡ walkBy f (held h) → Keeps h
-  keeps-walked h c e = keeps-walk h (e ∙ ap (λ (g : Hold → ℕ). walkBy g (held h)) c)
+  pub keeps_walked : {f : Hold → ℕ} (h : Holds) → f ≡ held_ceiling p → top_of h.top ≡ walk_by f (held h) → Keeps h
+  keeps_walked h c e = keeps_walk h (e ∙ ap (λ (g : Hold → ℕ). walk_by g (held h)) c)
 
   -- one hold more, by one comparison
-  pub keeps-gained : (h r : Holds) (s t : ℕ) {c : ℕ} → Keeps h → c ≡ ceiling p s → held r ≡ hold s t ∷ held h → top_of r.top ≡ gained c t (top_of h.top) → Keeps r
-  keeps-gained h r s t k c e g =
-      keeps-walk r
+  pub keeps_gained : (h r : Holds) (s t : ℕ) {c : ℕ} → Keeps h → c ≡ ceiling p s → held r ≡ hold s t ∷ held h → top_of r.top ≡ gained c t (top_of h.top) → Keeps r
+  keeps_gained h r s t k c e g =
+      keeps_walk r
       (g
-      ∙ ap₂ (λ (n : ℕ) (x : Top). gained n t x) c (fits-walk p (held h) (top_of h.top) k)
-      ∙ gained-walk (heldCeiling p) (hold s t) (held h)
+      ∙ ap₂ (λ (n : ℕ) (x : Top). gained n t x) c (fits_walk p (held h) (top_of h.top) k)
+      ∙ gained_walk (held_ceiling p) (hold s t) (held h)
       ∙ ap (walk p) (sym e))
 
 -- neither plan nor holds have changed

@@ -11,12 +11,12 @@ use Rattle.due.specs.Lists.{owed, Tells, Stores}
 use Rattle.due.proofs.Laws.{length-owed}
 
 -- two states that remember the same are equal
-pub alike : {a b : State} → a.tickNumber ≡ b.tickNumber → a.conditions ≡ b.conditions → a.queue ≡ b.queue → a.holds ≡ b.holds → a.waits ≡ b.waits → a.delays ≡ b.delays → a.reported ≡ b.reported → a.due ≡ b.due → a.timers ≡ b.timers → a ≡ b
-alike n cs q hs ws zs w ds ts = λ i. record { tickNumber = n i; conditions = cs i; queue = q i; holds = hs i; waits = ws i; delays = zs i; reported = w i; due = ds i; timers = ts i }
+pub alike : {a b : State} → a.tick_number ≡ b.tick_number → a.conditions ≡ b.conditions → a.queue ≡ b.queue → a.holds ≡ b.holds → a.waits ≡ b.waits → a.delays ≡ b.delays → a.reported ≡ b.reported → a.due ≡ b.due → a.timers ≡ b.timers → a ≡ b
+alike n cs q hs ws zs w ds ts = λ i. record { tick_number = n i; conditions = cs i; queue = q i; holds = hs i; waits = ws i; delays = zs i; reported = w i; due = ds i; timers = ts i }
 
 -- there are as many reports as the list of them has
-pub owed-count : (rs : Reports) {l : List records.Report} → owed rs ≡ l → rs.count ≡ length l
-owed-count rs e = sym (length-owed rs) ∙ ap length e
+pub owed_count : (rs : Reports) {l : List records.Report} → owed rs ≡ l → rs.count ≡ length l
+owed_count rs e = sym (length-owed rs) ∙ ap length e
 
 -- the reports stored are those that the call made on the way that it came
 pub told : {rs : Reports} {made way : Made} {due : List records.Report} → Stores rs made → made ≡ way → Tells way due → owed rs ≡ due

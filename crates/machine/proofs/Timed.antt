@@ -10,9 +10,9 @@ use Rattle.model.specs.Plan as plan
 use Rattle.model.specs.Records as records
 use Rattle.model.specs.Records.{TimerCall, Timing}
 use Rattle.model.specs.Timers as model
-use Rattle.model.specs.Timers.{setTimer, lateDue}
+use Rattle.model.specs.Timers.{set_timer, late_due}
 use Rattle.model.specs.State as state
-use Rattle.model.specs.Priorities.{greatestHold, current, chosen}
+use Rattle.model.specs.Priorities.{greatest_hold, current, chosen}
 use Rattle.model.specs.Calls as calls
 use Rattle.model.proofs.Tests.{equal?}
 use Rattle.plan.specs.View as plans
@@ -26,54 +26,54 @@ use Rattle.machine.specs.declared.reporting.Reporting.{Reporting}
 use Rattle.due.specs.Lists.{owed, Tells}
 use Rattle.machine.specs.View.{plan_of, viewed, idle}
 use Rattle.machine.specs.Kept.{kept}
-use Rattle.machine.specs.Contracts.{owing}
+use Rattle.machine.specs.Clauses.{owing}
 use Rattle.machine.specs.Calls.{Calls, Called}
 use Rattle.machine.proofs.Admitted.{asked, Makes}
-use Rattle.machine.proofs.Quieted.{unknown-quiet}
-use Rattle.machine.proofs.Switched.{chosen-due}
-use Rattle.machine.proofs.Outcomes.{caller-asked, call-answers}
+use Rattle.machine.proofs.Quieted.{unknown_quiet}
+use Rattle.machine.proofs.Switched.{chosen_due}
+use Rattle.machine.proofs.Outcomes.{caller_asked, call_answers}
 
 -- a machine with other timers
 abbrev pub retimed : Machine → Timers → Machine
 retimed m ts = record { plan = m.plan; tick = m.tick; slots = m.slots; wakes = m.wakes; queue = m.queue; holds = m.holds; waits = m.waits; delays = m.delays; reported = m.reported; timers = ts }
 
 -- with other timers and reports it stands for this state
-seen-so : (m : Machine) (ts : Timers) (rs : Reports) {to : model.Timers} {due : List records.Report} → timing.view ts ≡ to → owed rs ≡ due → viewed (retimed m ts) (owed rs) ≡ state.setTimers to (viewed m due)
-seen-so m ts rs e d = λ i. state.setTimers (e i) (viewed m (d i))
+seen_so : (m : Machine) (ts : Timers) (rs : Reports) {to : model.Timers} {due : List records.Report} → timing.view ts ≡ to → owed rs ≡ due → viewed (retimed m ts) (owed rs) ≡ state.set_timers to (viewed m due)
+seen_so m ts rs e d = λ i. state.set_timers (e i) (viewed m (d i))
 
 -- it is what the model's call makes, or where a rule is broken the machine as it came
 pub sets : (m : Machine) → T (kept m) → (k : TimerCall) (ts : Timers) (rs : Reports) {rule : ℕ} → rule ≡ asked m (Timing k)
-    → timing.view ts ≡ cond (eqb rule 0) (setTimer k m.tick.0 (timing.view m.timers)) (timing.view m.timers)
-    → owed rs ≡ cond (eqb rule 0) (lateDue k m.tick.0 (timing.view m.timers)) []
+    → timing.view ts ≡ cond (eqb rule 0) (set_timer k m.tick.0 (timing.view m.timers)) (timing.view m.timers)
+    → owed rs ≡ cond (eqb rule 0) (late_due k m.tick.0 (timing.view m.timers)) []
     → Makes (retimed m ts) rs rule m (Timing k)
 unfolding calls.timing
 sets m t k ts rs {rule} r e d =
     record {
       plan' = refl;
       rule' = r;
-      made = λ z. seen-so m ts rs (rw (eq-eqb rule 0 z) at e) (rw (eq-eqb rule 0 z) at d);
-      stays = λ n. seen-so m ts rs (rw (ne_eqb rule 0 n) at e) (rw (ne_eqb rule 0 n) at d);
+      made = λ z. seen_so m ts rs (rw (eq-eqb rule 0 z) at e) (rw (eq-eqb rule 0 z) at d);
+      stays = λ n. seen_so m ts rs (rw (ne_eqb rule 0 n) at e) (rw (ne_eqb rule 0 n) at d);
       keeps = t;
     }
 
 -- of a call that owes no Late nothing is due, whatever its rule
-pub no-late : {made : Made} → Tells made [] → (b : Bool) → Tells made (cond b [] [])
-no-late t true = t
-no-late t false = t
+pub no_late : {made : Made} → Tells made [] → (b : Bool) → Tells made (cond b [] [])
+no_late t true = t
+no_late t false = t
 
 -- the chosen thread does not depend on timers
-chosen-timed : (p : plan.Plan) (k : TimerCall) (st : state.State) → chosen p (calls.timing k st) ≡ chosen p st
-unfolding chosen current greatestHold calls.timing
-chosen-timed p k st = refl
+chosen_timed : (p : plan.Plan) (k : TimerCall) (st : state.State) → chosen p (calls.timing k st) ≡ chosen p st
+unfolding chosen current greatest_hold calls.timing
+chosen_timed p k st = refl
 
 module _ {c : Reporting} {k : TimerCall} (a : Calls c (Timing k)) {left : Machine} {rs : Reports} {rule : ℕ} (made : Makes left rs rule c.machine (Timing k)) where
-  still-chosen : chosen (plan_of left) (idle left) ≡ chosen (plan_of c.machine) (idle c.machine)
-  still-chosen = sym (chosen-due (plan_of left) left (owed rs)) ∙ ap (λ (p : plan.Plan). chosen p (viewed left (owed rs))) (ap plans.view made.plan') ∙ go (equal? rule 0)
+  still_chosen : chosen (plan_of left) (idle left) ≡ chosen (plan_of c.machine) (idle c.machine)
+  still_chosen = sym (chosen_due (plan_of left) left (owed rs)) ∙ ap (λ (p : plan.Plan). chosen p (viewed left (owed rs))) (ap plans.view made.plan') ∙ go (equal? rule 0)
     where
       go : (rule ≡ 0) ⊎ (rule ≢ 0) → chosen (plan_of c.machine) (viewed left (owed rs)) ≡ chosen (plan_of c.machine) (idle c.machine)
-      go (inl z) = ap (chosen (plan_of c.machine)) (made.made z) ∙ chosen-timed (plan_of c.machine) k (idle c.machine)
+      go (inl z) = ap (chosen (plan_of c.machine)) (made.made z) ∙ chosen_timed (plan_of c.machine) k (idle c.machine)
       go (inr d) = ap (chosen (plan_of c.machine)) (made.stays d)
 
   -- what is answered: the chosen thread is still the one reported, and what happens next is no longer known
-  pub timer-answers : Called (owing left rs rule c.machine.reported (record { 0 = 0 })) c (Timing k)
-  timer-answers = record { answers = call-answers a made ((caller-asked a).caller' ∙ ap numbered (sym still-chosen)) (unknown-quiet left); quiet' = refl }
+  pub timer_answers : Called (owing left rs rule c.machine.reported (record { 0 = 0 })) c (Timing k)
+  timer_answers = record { answers = call_answers a made ((caller_asked a).caller' ∙ ap numbered (sym still_chosen)) (unknown_quiet left); quiet' = refl }

@@ -9,8 +9,8 @@ use Rattle.model.specs.Records.{call}
 use Rattle.model.specs.State as state
 use Rattle.model.specs.Rules.{Question, questions, broken}
 use Rattle.model.proofs.Laws.{AllYes, all_yes}
-use Rattle.plan.proofs.Laws.{zero-none}
-use Rattle.machine.specs.Rules.{ruleNumber}
+use Rattle.plan.proofs.Laws.{zero_none}
+use Rattle.machine.specs.Rules.{rule_number}
 
 -- no question has the number 0, so the answer 0 says that no rule is broken, and every question has the answer Yes
 
@@ -28,10 +28,10 @@ numbers p st (call (records.Timing (records.Period n))) = tt
 numbers p st (call (records.Timing (records.Cancel i))) = tt
 numbers p st (records.report r) = tt
 
-pub none-broken : (p : plan.Plan) (st : state.State) (r : records.Record) → ruleNumber (broken p st r) ≡ 0 → broken p st r ≡ none
+pub none_broken : (p : plan.Plan) (st : state.State) (r : records.Record) → rule_number (broken p st r) ≡ 0 → broken p st r ≡ none
 unfolding broken
-none-broken p st r e = zero-none (questions p st r) (numbers p st r) e
+none_broken p st r e = zero_none (questions p st r) (numbers p st r) e
 
-pub yes-to-all : (p : plan.Plan) (st : state.State) (r : records.Record) → ruleNumber (broken p st r) ≡ 0 → AllYes (questions p st r)
+pub yes_to_all : (p : plan.Plan) (st : state.State) (r : records.Record) → rule_number (broken p st r) ≡ 0 → AllYes (questions p st r)
 unfolding broken
-yes-to-all p st r e = all_yes (questions p st r) (none-broken p st r e)
+yes_to_all p st r e = all_yes (questions p st r) (none_broken p st r e)

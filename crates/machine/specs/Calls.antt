@@ -3,32 +3,32 @@ use Rattle.std.specs.Prelude.{◌≡◌, ◌⊎◌, Bool, cond, List, [], ℕ, �
 use Rattle.std.proofs.Math.Option.{some}
 use Rattle.model.specs.Records as records
 use Rattle.model.specs.State.{asleep}
-use Rattle.model.specs.Timers.{Timer, slot, setTimer, lateDue}
-use Rattle.model.specs.Rules.{stage, callPlace, broken}
+use Rattle.model.specs.Timers.{Timer, slot, set_timer, late_due}
+use Rattle.model.specs.Rules.{stage, call_place, broken}
 use Rattle.model.specs.Runs.{moved, broke, step}
-use Rattle.model.specs.Formed.{formed, lastTick}
+use Rattle.model.specs.Formed.{formed, last_tick}
 use Rattle.clock.specs.declared.time.Tick.{Tick}
 use Rattle.clock.specs.declared.timers.Timers.{Timers}
 use Rattle.clock.specs.View as timing
-use Rattle.clock.specs.Contracts.{kindPlace}
+use Rattle.clock.specs.Clauses.{kind_place}
 use Rattle.machine.specs.declared.slots.Slots.{Slots}
 use Rattle.machine.specs.declared.Machine.{Machine}
 use Rattle.due.specs.declared.made.Made.{Made}
 use Rattle.machine.specs.declared.reporting.Reporting.{Reporting}
 use Rattle.machine.specs.declared.state.State.{State}
-use Rattle.due.specs.Lists.{reportRoom, Tells}
-use Rattle.machine.specs.View.{conditionIn, plan_of, idle, view, reportAt, shown}
+use Rattle.due.specs.Lists.{report_room, Tells}
+use Rattle.machine.specs.View.{condition_in, plan_of, idle, view, report_at, shown}
 use Rattle.machine.specs.Kept.{kept}
-use Rattle.machine.specs.Rules.{ruleNumber, dueRule}
-use Rattle.machine.specs.Contracts.{Ceilings, nextEventOf}
+use Rattle.machine.specs.Rules.{rule_number, due_rule}
+use Rattle.machine.specs.Clauses.{Ceilings, next_event_of}
 
 -- the Switch has a place behind the reports of the array, and nothing else stands apart from it
 pub record Apart (c : Reporting) : Type 0 where
-  pub apart : (c.due ≡ c.count) ⊎ ((c.due ≡ c.count + 1) × (c.count < reportRoom))
+  pub apart : (c.due ≡ c.count) ⊎ ((c.due ≡ c.count + 1) × (c.count < report_room))
 
 -- nothing happens before this tick number: nobody wakes and no timer expires; inside an arming it is 0, since every Tick there breaks a rule
 pub record QuietUntil (until threads : ℕ) (slots : Slots) (wakes : List Tick) (timers : Timers) : Type 0 where
-  pub sleepers' : (t n : ℕ) → t < threads → conditionIn slots wakes t ≡ asleep n → until ≤ n
+  pub sleepers' : (t n : ℕ) → t < threads → condition_in slots wakes t ≡ asleep n → until ≤ n
   pub timers' : (i : ℕ) (t : Timer) → slot (timing.view timers) i ≡ some t → until ≤ t.expiry
   pub rests : 0 < until → stage (timing.view timers).arming ≡ 0
 
@@ -47,13 +47,13 @@ pub record Asks (c : Reporting) (r : records.Record) : Type 0 where
   pub formed' : T (formed (plan_of c.machine) (shown c))
   pub stands : Stands c
   pub allowed' : T (records.allowed (plan_of c.machine) r)
-  pub tick' : r ≡ records.call records.Tick → c.machine.tick.0 < lastTick
+  pub tick' : r ≡ records.call records.Tick → c.machine.tick.0 < last_tick
 
 -- a call other than Tick with nothing due, where the arming has come to its place
 pub record Calls (c : Reporting) (k : records.Call) : Type 0 where
   pub asks : Asks c (records.call k)
   pub undue : c.due ≤ c.given
-  pub ordered : stage (timing.view c.machine.timers).arming ≡ callPlace k
+  pub ordered : stage (timing.view c.machine.timers).arming ≡ call_place k
 
 -- a call that may move a hold, with the ceilings of its plan
 pub record Moves (c : Reporting) (ceilings : List ℕ) (k : records.Call) : Type 0 where
@@ -75,40 +75,40 @@ pub record Answers (after c : Reporting) (r : records.Record) : Type 0 where
 
 -- the tick number before which nothing happens, after a call: asked anew by a Tick, no longer known after a Delay and where timers are set, and kept
 -- by every other call
-abbrev pub quietAfter : records.Call → (kept : ℕ) → Machine → ℕ
-quietAfter (records.Create t) kept m = kept
-quietAfter (records.Delay n) kept m = 0
-quietAfter records.Relinquish kept m = kept
-quietAfter records.End kept m = kept
-quietAfter (records.Take s) kept m = kept
-quietAfter (records.Give s) kept m = kept
-quietAfter records.Tick kept m = nextEventOf m
-quietAfter (records.Timing k) kept m = 0
+abbrev pub quiet_after : records.Call → (kept : ℕ) → Machine → ℕ
+quiet_after (records.Create t) kept m = kept
+quiet_after (records.Delay n) kept m = 0
+quiet_after records.Relinquish kept m = kept
+quiet_after records.End kept m = kept
+quiet_after (records.Take s) kept m = kept
+quiet_after (records.Give s) kept m = kept
+quiet_after records.Tick kept m = next_event_of m
+quiet_after (records.Timing k) kept m = 0
 
 -- what a call answers
 pub record Called (after c : Reporting) (k : records.Call) : Type 0 where
   pub answers : Answers after c (records.call k)
-  pub quiet' : after.quiet.0 ≡ quietAfter k c.quiet.0 after.machine
+  pub quiet' : after.quiet.0 ≡ quiet_after k c.quiet.0 after.machine
 
 -- What a call that sets timers found: the rule that it breaks, 0 if there is none; then the timers as the model sets them, and its Late.
 pub record Setting (c : Reporting) (k : records.TimerCall) (timers : Timers) (made : Made) (rule : ℕ) : Type 0 where
   pub sets : Calls c (records.Timing k)
-  pub rule' : rule ≡ ruleNumber (broken (plan_of c.machine) (idle c.machine) (records.call (records.Timing k)))
-  pub timers' : timing.view timers ≡ cond (eqb rule 0) (setTimer k c.machine.tick.0 (timing.view c.machine.timers)) (timing.view c.machine.timers)
-  pub made' : Tells made (cond (eqb rule 0) (lateDue k c.machine.tick.0 (timing.view c.machine.timers)) [])
+  pub rule' : rule ≡ rule_number (broken (plan_of c.machine) (idle c.machine) (records.call (records.Timing k)))
+  pub timers' : timing.view timers ≡ cond (eqb rule 0) (set_timer k c.machine.tick.0 (timing.view c.machine.timers)) (timing.view c.machine.timers)
+  pub made' : Tells made (cond (eqb rule 0) (late_due k c.machine.tick.0 (timing.view c.machine.timers)) [])
 
 -- and what it then answers
 abbrev pub Timed : (r c : Reporting) → Timers → Made → (rule : ℕ) → Type 0
 Timed r c timers made rule = (k : records.TimerCall) → Setting c k timers made rule → Called r c (records.Timing k)
 
 -- 31: a record of this kind stands where the arming has come to
-abbrev pub inPlace : Machine → (kind : ℕ) → Bool
-inPlace m kind = eqb (stage (timing.view m.timers).arming) (kindPlace kind)
+abbrev pub in_place : Machine → (kind : ℕ) → Bool
+in_place m kind = eqb (stage (timing.view m.timers).arming) (kind_place kind)
 
 -- a well-formed state with something due, or a record outside its place
 pub record Hearing (c : Reporting) (kind : ℕ) : Type 0 where
   pub formed' : T (formed (plan_of c.machine) (shown c))
-  pub due' : T (inPlace c.machine kind) → c.given < c.due
+  pub due' : T (in_place c.machine kind) → c.given < c.due
 
 -- another rule, and nothing else changed
 abbrev pub barred : Reporting → (rule : ℕ) → Reporting
@@ -135,7 +135,7 @@ told c x =
 
 -- a record that is heard, by its kind and operand: the first due is given, a Switch given names the thread reported, or a rule is broken
 pub record Hears (r c : Reporting) (kind operand : ℕ) : Type 0 where
-  pub rule' : r.rule ≡ cond (inPlace c.machine kind) (dueRule (reportAt c c.given) kind operand) 31
+  pub rule' : r.rule ≡ cond (in_place c.machine kind) (due_rule (report_at c c.given) kind operand) 31
   pub given' : r.rule ≡ 0 → r ≡ told c (cond (eqb kind 17) (operand % 256) c.machine.reported)
   pub barred' : (r.rule ≡ 0 → ⊥) → r ≡ barred c r.rule
 

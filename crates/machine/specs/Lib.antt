@@ -2,6 +2,6 @@
 pub mod View
 pub mod Kept
 pub mod Rules
-pub mod Contracts
+pub mod Clauses
 pub mod Calls
 pub mod Records

@@ -3,21 +3,21 @@ use Rattle.std.specs.Prelude.{◌≡◌, ◌⊎◌, ℕ}
 use Rattle.model.specs.Records as records
 use Rattle.machine.specs.declared.record.Record.{Record}
 use Rattle.machine.specs.declared.record.Record.TheVariants.{Create, Delay, Relinquish, End, Take, Give, Tick, Arm, Start, Period, Cancel, Report}
-use Rattle.due.specs.Lists.{reportOf, IsReport}
+use Rattle.due.specs.Lists.{report_of, IsReport}
 
-abbrev pub recordOf : Record → records.Record
-recordOf (Create t) = records.call (records.Create t)
-recordOf (Delay w) = records.call (records.Delay w.0)
-recordOf Relinquish = records.call records.Relinquish
-recordOf End = records.call records.End
-recordOf (Take s) = records.call (records.Take s)
-recordOf (Give s) = records.call (records.Give s)
-recordOf Tick = records.call records.Tick
-recordOf (Arm i) = records.call (records.Timing (records.Arm i))
-recordOf (Start n) = records.call (records.Timing (records.Start n))
-recordOf (Period n) = records.call (records.Timing (records.Period n))
-recordOf (Cancel i) = records.call (records.Timing (records.Cancel i))
-recordOf (Report r) = records.report (reportOf r)
+abbrev pub record_of : Record → records.Record
+record_of (Create t) = records.call (records.Create t)
+record_of (Delay w) = records.call (records.Delay w.0)
+record_of Relinquish = records.call records.Relinquish
+record_of End = records.call records.End
+record_of (Take s) = records.call (records.Take s)
+record_of (Give s) = records.call (records.Give s)
+record_of Tick = records.call records.Tick
+record_of (Arm i) = records.call (records.Timing (records.Arm i))
+record_of (Start n) = records.call (records.Timing (records.Start n))
+record_of (Period n) = records.call (records.Timing (records.Period n))
+record_of (Cancel i) = records.call (records.Timing (records.Cancel i))
+record_of (Report r) = records.report (report_of r)
 
 -- question 7, of a record that is a report
 abbrev pub KindAllowed : Record → Type 0
@@ -37,4 +37,4 @@ KindAllowed (Report r) = IsReport r
 -- a record by its kind and operand
 abbrev pub Named : (kind operand : ℕ) → records.Record → Type 0
 Named kind n r =
-    ((k : records.Call) × (r ≡ records.call k) × (records.callKind k ≡ kind)) ⊎ (IsReport (record { kind = kind; spare = 0; operand = n }) × (r ≡ records.report (reportOf (record { kind = kind; spare = 0; operand = n }))))
+    ((k : records.Call) × (r ≡ records.call k) × (records.call_kind k ≡ kind)) ⊎ (IsReport (record { kind = kind; spare = 0; operand = n }) × (r ≡ records.report (report_of (record { kind = kind; spare = 0; operand = n }))))

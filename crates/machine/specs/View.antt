@@ -17,20 +17,20 @@ use Rattle.machine.specs.declared.state.State.{State}
 use Rattle.due.specs.declared.reports.Report.{Report}
 use Rattle.due.specs.declared.reports.Reports.{Reports}
 use Rattle.machine.specs.declared.reporting.Reporting.{Reporting}
-use Rattle.due.specs.Lists.{threadOf, noReport, switchTo, listed, owed}
+use Rattle.due.specs.Lists.{thread_of, no_report, switch_to, listed, owed}
 
 -- a condition by its number: 0 dormant, 1 ready, 2 asleep until a tick number, 3 waiting for a section. Any other number stands for a wait
 -- for a section that no plan has, so that answer 12 is a question about the state alone.
-abbrev pub conditionOf : (state want wake : ℕ) → Condition
-conditionOf s n w = cond (eqb s 0) dormant (cond (eqb s 1) ready (cond (eqb s 2) (asleep w) (cond (eqb s 3) (waiting n) (waiting 255))))
+abbrev pub condition_of : (state want wake : ℕ) → Condition
+condition_of s n w = cond (eqb s 0) dormant (cond (eqb s 1) ready (cond (eqb s 2) (asleep w) (cond (eqb s 3) (waiting n) (waiting 255))))
 
 -- the condition of a thread
-abbrev pub conditionIn : Slots → (wakes : List Tick) (thread : ℕ) → Condition
-conditionIn s wakes t = conditionOf (nibble s.states t) (nibble s.wants t) (number_at wakes t)
+abbrev pub condition_in : Slots → (wakes : List Tick) (thread : ℕ) → Condition
+condition_in s wakes t = condition_of (nibble s.states t) (nibble s.wants t) (number_at wakes t)
 
 -- one for each thread
-abbrev pub conditionsOf : (threads : ℕ) → Slots → (wakes : List Tick) → List Condition
-conditionsOf threads s wakes = map (conditionIn s wakes) (up_to threads)
+abbrev pub conditions_of : (threads : ℕ) → Slots → (wakes : List Tick) → List Condition
+conditions_of threads s wakes = map (condition_in s wakes) (up_to threads)
 
 abbrev pub plan_of : Machine → plan.Plan
 plan_of m = plans.view m.plan
@@ -39,13 +39,13 @@ plan_of m = plans.view m.plan
 abbrev pub viewed : Machine → List records.Report → state.State
 viewed m due =
     record {
-      tickNumber = m.tick.0;
-      conditions = conditionsOf m.plan.threads m.slots m.wakes;
+      tick_number = m.tick.0;
+      conditions = conditions_of m.plan.threads m.slots m.wakes;
       queue = queued m.queue;
       holds = held m.holds;
       waits = queued m.waits;
       delays = queued m.delays;
-      reported = threadOf m.reported;
+      reported = thread_of m.reported;
       due = due;
       timers = timing.view m.timers;
     }
@@ -59,12 +59,12 @@ abbrev pub view : State → state.State
 view s = viewed s.machine (drop s.given (owed s.due))
 
 -- the reports of the array
-abbrev pub reportsIn : Reporting → Reports
-reportsIn c = record { items = c.reports; count = c.count }
+abbrev pub reports_in : Reporting → Reports
+reports_in c = record { items = c.reports; count = c.count }
 
 -- Of a machine with its reports: those of the array, and behind them the Switch to the chosen thread, as far as they are due.
-abbrev pub reportAt : Reporting → (place : ℕ) → Report
-reportAt c i = cond (ltb i c.count) (get_or c.reports i noReport) (switchTo c.chosen)
+abbrev pub report_at : Reporting → (place : ℕ) → Report
+report_at c i = cond (ltb i c.count) (get_or c.reports i no_report) (switch_to c.chosen)
 
 abbrev pub shown : Reporting → state.State
-shown c = viewed c.machine (drop c.given (listed (reportAt c) c.due))
+shown c = viewed c.machine (drop c.given (listed (report_at c) c.due))

@@ -1,10 +1,10 @@
 // Reports, and records other than Tick where reports are due, or any that stand outside their place in an arming: rules 21, 28 to 30 and 31.
 ghost use Rattle.std.specs.Prelude.{◌≡◌, not, ◌&&◌, ◌||◌, ◌<◌, T, eqb, ltb};
-ghost use Rattle.model.specs.Formed.{armingInRange};
+ghost use Rattle.model.specs.Formed.{arming_in_range};
 ghost use Rattle.clock.specs.View as timing;
-ghost use Rattle.due.specs.Lists.{reportRoom};
-ghost use Rattle.machine.specs.View.{reportAt};
-ghost use Rattle.machine.specs.Calls.{inPlace, Hearing, Hears, unasked};
+ghost use Rattle.due.specs.Lists.{report_room};
+ghost use Rattle.machine.specs.View.{report_at};
+ghost use Rattle.machine.specs.Calls.{in_place, Hearing, Hears, unasked};
 
 use crate::reporting::Reporting;
 use crate::rules::due_rule;
@@ -13,8 +13,8 @@ use due::reports::Report;
 impl Reporting {
     // The report due first: one of the array, or the Switch behind them.
     fn first(self) -> Report
-        requires { self.given < self.count → self.given < reportRoom }
-        ensures { result ≡ reportAt self self.given }
+        requires { self.given < self.count → self.given < report_room }
+        ensures { result ≡ report_at self self.given }
     {
         let given = self.given;
         let mut first = Report::switch(self.chosen);
@@ -27,8 +27,8 @@ impl Reporting {
 
     // Whether a record of this kind is no call to be made: a report is due and it is no Tick, or it stands outside its place.
     pub fn hears(self, kind: u8) -> bool
-        requires { T (armingInRange (timing.view self.machine.timers).arming) }
-        ensures { result ≡ not (eqb kind 7) && ltb self.given self.due || not (inPlace self.machine kind) }
+        requires { T (arming_in_range (timing.view self.machine.timers).arming) }
+        ensures { result ≡ not (eqb kind 7) && ltb self.given self.due || not (in_place self.machine kind) }
     {
         kind != 7 && self.given < self.due || !self.machine.timers.in_order(kind)
     }

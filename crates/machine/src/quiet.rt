@@ -1,7 +1,7 @@
 // Ticks at which nothing happens: nothing is due, nobody wakes and no timer expires, so that no Switch becomes due and they move the tick number alone.
 ghost use Rattle.std.specs.Prelude.{◌≡◌, ◌+◌, ◌≤◌, ◌<◌, ◌&&◌, leb, ltb};
-ghost use Rattle.model.specs.Formed.{lastTick};
-ghost use Rattle.machine.specs.Contracts.{nextEvent, passed, still};
+ghost use Rattle.model.specs.Formed.{last_tick};
+ghost use Rattle.machine.specs.Clauses.{next_event, passed, still};
 
 use crate::reporting::Reporting;
 use crate::sleepers::soonest;
@@ -14,7 +14,7 @@ use lists::queue::Queue;
 // so that the machine of the walk stays in its fields.
 pub(crate) fn next_event(delays: Queue, wakes: [Tick; 16], timers: Timers) -> Tick
     requires { delays.count ≤ 16 }
-    ensures { result.0 ≡ nextEvent delays wakes timers }
+    ensures { result.0 ≡ next_event delays wakes timers }
 {
     let mut first = Tick(0);
     if timers.is_complete() {
@@ -30,7 +30,7 @@ pub(crate) fn next_event(delays: Queue, wakes: [Tick; 16], timers: Timers) -> Ti
 impl Reporting {
     // Whether nothing is due, and the next Tick wakes nobody and no timer expires at it.
     pub fn is_quiet(self) -> bool
-        requires { self.machine.tick.0 < lastTick }
+        requires { self.machine.tick.0 < last_tick }
         ensures { result ≡ leb self.due self.given && ltb (self.machine.tick.0 + 1) self.quiet.0 }
     {
         let now = self.machine.tick;
@@ -41,7 +41,7 @@ impl Reporting {
 
     // The tick number grows, and nothing else changes.
     pub fn passed(self) -> Reporting
-        requires { self.machine.tick.0 < lastTick }
+        requires { self.machine.tick.0 < last_tick }
         ensures { result ≡ passed self }
     {
         let mut c = self;
@@ -55,7 +55,7 @@ impl Reporting {
 impl State {
     // Whether nothing is due, and the next Tick wakes nobody and no timer expires at it.
     pub fn is_still(self) -> bool
-        requires { (self.machine.tick.0 < lastTick) × (self.machine.delays.count ≤ 16) }
+        requires { (self.machine.tick.0 < last_tick) × (self.machine.delays.count ≤ 16) }
         ensures { result ≡ still self }
     {
         let now = self.machine.tick;

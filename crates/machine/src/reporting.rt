@@ -3,9 +3,9 @@
 ghost use Rattle.std.specs.Prelude.{◌≡◌, ◌<◌};
 ghost use Rattle.model.specs.Priorities.{chosen};
 ghost use Rattle.lists.specs.Lists.{numbered};
-ghost use Rattle.due.specs.Lists.{reportRoom, Stores};
-ghost use Rattle.machine.specs.View.{plan_of, idle, reportsIn};
-ghost use Rattle.machine.specs.Contracts.{Starts, Chooses, owing};
+ghost use Rattle.due.specs.Lists.{report_room, Stores};
+ghost use Rattle.machine.specs.View.{plan_of, idle, reports_in};
+ghost use Rattle.machine.specs.Clauses.{Starts, Chooses, owing};
 
 use crate::Machine;
 use crate::slots::Slots;
@@ -68,7 +68,7 @@ impl Machine {
 impl Reporting {
     // With the reports of a call other than Tick. They are stored whatever they are: a store that depends on a test copies the array.
     pub(crate) fn making(self, made: Made) -> Reporting
-        ensures { Stores (reportsIn result) made }
+        ensures { Stores (reports_in result) made }
     {
         let mut c = self;
         let first = made.first;
@@ -81,7 +81,7 @@ impl Reporting {
 
     // The reports of the array.
     pub(crate) fn array(self) -> Reports
-        ensures { result ≡ reportsIn self }
+        ensures { result ≡ reports_in self }
     {
         let items = self.reports;
         Reports {
@@ -92,7 +92,7 @@ impl Reporting {
 
     // With these reports.
     pub(crate) fn telling(self, reports: Reports) -> Reporting
-        ensures { reportsIn result ≡ reports }
+        ensures { reports_in result ≡ reports }
     {
         let mut c = self;
         let items = reports.items;
@@ -104,8 +104,8 @@ impl Reporting {
     // What a call hands back: its reports, and behind them a Switch where the chosen thread is not the one reported. A broken rule makes
     // none due.
     pub(crate) fn owing(self, machine: Machine, rule: u8, chosen: u8, quiet: Tick) -> Reporting
-        requires { self.count < reportRoom }
-        ensures { result ≡ owing machine (reportsIn self) rule chosen quiet }
+        requires { self.count < report_room }
+        ensures { result ≡ owing machine (reports_in self) rule chosen quiet }
     {
         let mut c = self;
         let count = self.count;

@@ -1,7 +1,7 @@
 // The sleepers, in the order of their Delays: who wakes at a tick number, and when the next one does.
 ghost use Rattle.std.specs.Prelude.{◌≡◌, ◌+◌, ◌≤◌};
 ghost use Rattle.lists.specs.Lists.{queued};
-ghost use Rattle.machine.specs.Contracts.{Wakes, soonest};
+ghost use Rattle.machine.specs.Clauses.{Wakes, soonest};
 
 use crate::slots::Slots;
 use clock::time::{LAST_WAKE, Tick};

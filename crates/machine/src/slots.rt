@@ -1,7 +1,7 @@
 // The conditions of the threads.
 ghost use Rattle.std.specs.Prelude.{◌≡◌, ◌<◌, eqb};
 ghost use Rattle.lists.specs.Words.{nibble};
-ghost use Rattle.machine.specs.Contracts.{placed, waits_for};
+ghost use Rattle.machine.specs.Clauses.{placed, waits_for};
 
 use lists::nibbles::{nibble_at, with_nibble};
 

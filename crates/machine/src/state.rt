@@ -2,7 +2,7 @@
 ghost use Rattle.std.specs.Prelude.{◌≡◌, length};
 ghost use Rattle.model.specs.Timers.{is_complete};
 ghost use Rattle.machine.specs.View.{view};
-ghost use Rattle.machine.specs.Contracts.{Fresh, Owes, FirstDue, Delivers, opened};
+ghost use Rattle.machine.specs.Clauses.{Fresh, Owes, FirstDue, Delivers, opened};
 ghost use Rattle.machine.specs.Calls.{Apart, Closes};
 
 use crate::Machine;

@@ -11,7 +11,7 @@ use clock::timers::Timers;
 use due::made::Made;
 
 impl Reporting {
-    // Arm: see model, Timers.setTimer.
+    // Arm: see model, Timers.set_timer.
     pub fn arm(self, timer: u8) -> Reporting
         requires { Calls self (records.Timing (records.Arm timer)) }
         ensures { Called result self (records.Timing (records.Arm timer)) }

@@ -12,7 +12,7 @@ use lib.ListN.{length}
 use Rattle.model.specs.Searches.{filter}
 use Rattle.model.specs.Formed.{times}
 use Rattle.model.proofs.Tests.{split, is_true, is_false, eq_test, equal?}
-use Rattle.model.proofs.Searches.{filtered, in-filter, Pairwise, Distinct}
+use Rattle.model.proofs.Searches.{filtered, in_filter, Pairwise, Distinct}
 
 -- one for a test that is passed
 abbrev one : Bool → ℕ
@@ -26,7 +26,7 @@ module _ {A : Type 0} where
 
   -- one that passes is counted, and one that is counted passes
   pub counted : (f : A → Bool) (l : List A) {a : A} → Mem a l → T (f a) → 0 < times f l
-  counted f l {a} i t = go (filter f l) (in-filter f l i t)
+  counted f l {a} i t = go (filter f l) (in_filter f l i t)
     where
       go : (k : List A) → Mem a k → 0 < length k
       go [] j = elim j [ ]
@@ -43,19 +43,19 @@ module _ {A : Type 0} where
       go false = omega arith
 
   -- those that pass and those that don't
-  pub times-split : (f : A → Bool) (l : List A) → times f l + times (λ a. not (f a)) l ≡ length l
-  times-split f [] = refl
-  times-split f (a ∷ l) = omega (arith, times-cons f a l, times-cons (λ b. not (f b)) a l, either (f a), times-split f l)
+  pub times_split : (f : A → Bool) (l : List A) → times f l + times (λ a. not (f a)) l ≡ length l
+  times_split f [] = refl
+  times_split f (a ∷ l) = omega (arith, times-cons f a l, times-cons (λ b. not (f b)) a l, either (f a), times_split f l)
     where
       either : (b : Bool) → one b + one (not b) ≡ 1
       either true = refl
       either false = refl
 
   -- two tests that nothing passes both, each stronger than a third
-  pub times-both : (f g h : A → Bool) (l : List A) → ((a : A) → Mem a l → T (f a) → T (h a)) → ((a : A) → Mem a l → T (g a) → T (h a)) → ((a : A) → Mem a l → T (f a) → T (g a) → ⊥) → times f l + times g l ≤ times h l
-  times-both f g h [] x y z = omega arith
-  times-both f g h (a ∷ l) x y z =
-      omega (arith, times-cons f a l, times-cons g a l, times-cons h a l, head (f a) (g a) (h a) (x a (here refl)) (y a (here refl)) (z a (here refl)), times-both f g h l (λ b m. x b (there m)) (λ b m. y b (there m)) (λ b m. z b (there m)))
+  pub times_both : (f g h : A → Bool) (l : List A) → ((a : A) → Mem a l → T (f a) → T (h a)) → ((a : A) → Mem a l → T (g a) → T (h a)) → ((a : A) → Mem a l → T (f a) → T (g a) → ⊥) → times f l + times g l ≤ times h l
+  times_both f g h [] x y z = omega arith
+  times_both f g h (a ∷ l) x y z =
+      omega (arith, times-cons f a l, times-cons g a l, times-cons h a l, head (f a) (g a) (h a) (x a (here refl)) (y a (here refl)) (z a (here refl)), times_both f g h l (λ b m. x b (there m)) (λ b m. y b (there m)) (λ b m. z b (there m)))
     where
       head : (b c d : Bool) → (T b → T d) → (T c → T d) → (T b → T c → ⊥) → one b + one c ≤ one d
       head true true d i j k = absurd (k tt tt)
@@ -66,7 +66,7 @@ module _ {A : Type 0} where
       head false false d i j k = omega arith
 
   pub times_more : (f g : A → Bool) (l : List A) → ((a : A) → Mem a l → T (f a) → T (g a)) → times f l ≤ times g l
-  times_more f g l x = omega (arith, times-both f (λ a. false) g l x (λ a m t. absurd t) (λ a m t u. u))
+  times_more f g l x = omega (arith, times_both f (λ a. false) g l x (λ a m t. absurd t) (λ a m t u. u))
 
   -- each number at most once, of a list whose entries have numbers: exactly if no two entries have the same
   module _ (key : A → ℕ) where
@@ -89,16 +89,16 @@ module _ {A : Type 0} where
         go true = omega arith
         go false = omega arith
 
-    pub once-apart : (l : List A) → ((a : A) → Mem a l → of (key a) l ≤ 1) → Pairwise Apart l
-    once-apart [] h = tt
-    once-apart (a ∷ l) h = (
+    pub once_apart : (l : List A) → ((a : A) → Mem a l → of (key a) l ≤ 1) → Pairwise Apart l
+    once_apart [] h = tt
+    once_apart (a ∷ l) h = (
       λ b i e. omega (arith, h a (here refl), more a l, counted (λ c. eqb (key c) (key a)) l i (eq_test (key b) (key a) (sym e))),
-      once-apart l (λ b i. omega (arith, h b (there i), fewer a l (key b))),
+      once_apart l (λ b i. omega (arith, h b (there i), fewer a l (key b))),
     )
 
-    pub apart-once : (l : List A) → Pairwise Apart l → (t : ℕ) → of t l ≤ 1
-    apart-once [] d t = omega arith
-    apart-once (a ∷ l) d t = go (split (eqb (key a) t)) (apart-once l d.1 t)
+    pub apart_once : (l : List A) → Pairwise Apart l → (t : ℕ) → of t l ≤ 1
+    apart_once [] d t = omega arith
+    apart_once (a ∷ l) d t = go (split (eqb (key a) t)) (apart_once l d.1 t)
       where
         none_left : key a ≡ t → of t l ≡ 0
         none_left e = zero_of (of t l) (λ h. let r = found (λ b. eqb (key b) t) l h in d.0 r.0 r.1 (e ∙ sym (eqb→eq (key r.0) t r.2)))
@@ -112,9 +112,9 @@ module _ {A : Type 0} where
         go (inr n) k = rw (is_false (eqb (key a) t) n) k
 
 -- a test that only one number can pass without passing the other
-pub times-but-one : (f g : ℕ → Bool) (c : ℕ) (l : List ℕ) → Distinct l → ((a : ℕ) → a ≢ c → T (f a) → T (g a)) → times f l ≤ suc (times g l)
-times-but-one f g c [] d x = omega arith
-times-but-one f g c (a ∷ l) d x = go (equal? a c) (times-but-one f g c l d.1 x)
+pub times_but_one : (f g : ℕ → Bool) (c : ℕ) (l : List ℕ) → Distinct l → ((a : ℕ) → a ≢ c → T (f a) → T (g a)) → times f l ≤ suc (times g l)
+times_but_one f g c [] d x = omega arith
+times_but_one f g c (a ∷ l) d x = go (equal? a c) (times_but_one f g c l d.1 x)
   where
     head : (b e : Bool) → (T b → T e) → one b ≤ one e
     head true true i = omega arith

@@ -9,39 +9,39 @@ use native.Mathlib.Omega.{arith}
 use lib.Dec.{T}
 use lib.ListN.{length, get_or, take, set, length-map, length-set, get_or-eq_default}
 use lib.Seq.{take-suc-set, get_or-set_same, get_or-set_other, ext_get_or}
-use Rattle.model.specs.Searches.{all, filter, greatest, countFrom, up_to}
-use Rattle.model.proofs.Tests.{is_true, from-true, and_left, and_right, and_both, equal?}
+use Rattle.model.specs.Searches.{all, filter, greatest, count_from, up_to}
+use Rattle.model.proofs.Tests.{is_true, from_true, and_left, and_right, and_both, equal?}
 
 -- the numbers from i on that are below n
 abbrev pub left : (i n : ℕ) → List ℕ
-left i n = countFrom i (n - i)
+left i n = count_from i (n - i)
 
 -- Whatever h makes of the numbers that are left: at the start, in a turn, and at the end of the loop. Every law below is made of these.
 module _ {ℓ} {R : Type ℓ} (h : List ℕ → R) (n : ℕ) where
   pub begin : h (left 0 n) ≡ h (up_to n)
-  begin = let z : n - 0 ≡ n = omega arith in ap (λ k. h (countFrom 0 k)) z
+  begin = let z : n - 0 ≡ n = omega arith in ap (λ k. h (count_from 0 k)) z
 
   pub turn : (i : ℕ) → i < n → h (left i n) ≡ h (i ∷ left (i + 1) n)
-  turn i k = let z : n - i ≡ suc (n - suc i) = omega arith in rw add-one (ap (λ j. h (countFrom i j)) z)
+  turn i k = let z : n - i ≡ suc (n - suc i) = omega arith in rw add-one (ap (λ j. h (count_from i j)) z)
 
   pub done : (i : ℕ) → n ≤ i → h (left i n) ≡ h []
-  done i k = let z : n - i ≡ 0 = omega arith in ap (λ j. h (countFrom i j)) z
+  done i k = let z : n - i ≡ 0 = omega arith in ap (λ j. h (count_from i j)) z
 
-pub and-true : (a : Bool) → a && true ≡ a
-and-true true = refl
-and-true false = refl
+pub and_true : (a : Bool) → a && true ≡ a
+and_true true = refl
+and_true false = refl
 
-and-false : (a : Bool) → a && false ≡ false
-and-false true = refl
-and-false false = refl
+and_false : (a : Bool) → a && false ≡ false
+and_false true = refl
+and_false false = refl
 
 -- a loop that asks whether all pass: whether all that are left pass is whether all pass
 module _ {A : Type 0} (f : A → Bool) (g : ℕ → A) (n : ℕ) where
   abbrev pub AllLeft : ℕ → Type 0
   AllLeft i = all f (map g (left i n)) ≡ all f (map g (up_to n))
 
-  pub all-begin : AllLeft 0
-  all-begin = begin (λ l. all f (map g l)) n
+  pub all_begin : AllLeft 0
+  all_begin = begin (λ l. all f (map g l)) n
 
   module _ (i : ℕ) (k : i < n) (inv : AllLeft i) where
     turned : f (g i) && all f (map g (left (i + 1) n)) ≡ all f (map g (up_to n))
@@ -53,10 +53,10 @@ module _ {A : Type 0} (f : A → Bool) (g : ℕ → A) (n : ℕ) where
     pub failed : f (g i) ≡ false → false ≡ all f (map g (up_to n))
     failed e = rw e at turned
 
-  pub all-passed : (i : ℕ) → n ≤ i → AllLeft i → true ≡ all f (map g (up_to n))
-  all-passed i k inv = sym (done (λ l. all f (map g l)) n i k) ∙ inv
+  pub all_passed : (i : ℕ) → n ≤ i → AllLeft i → true ≡ all f (map g (up_to n))
+  all_passed i k inv = sym (done (λ l. all f (map g l)) n i k) ∙ inv
 
-  -- the same loop without an early end: whether all so far passed, and all that are left. It begins with `all-begin`, at true.
+  -- the same loop without an early end: whether all so far passed, and all that are left. It begins with `all_begin`, at true.
   abbrev pub AllPass : (i : ℕ) (pass : Bool) → Type 0
   AllPass i pass = pass && all f (map g (left i n)) ≡ all f (map g (up_to n))
 
@@ -67,30 +67,30 @@ module _ {A : Type 0} (f : A → Bool) (g : ℕ → A) (n : ℕ) where
     pub pass_kept : (next : Bool) → next ≡ pass → f (g i) ≡ true → AllPass (i + 1) next
     pass_kept next q e = rw q (rw e at turned_on)
 
-    pub pass-lost : (next : Bool) → next ≡ false → f (g i) ≡ false → AllPass (i + 1) next
-    pass-lost next q e = rw q (sym (and-false pass) ∙ (rw e at turned_on))
+    pub pass_lost : (next : Bool) → next ≡ false → f (g i) ≡ false → AllPass (i + 1) next
+    pass_lost next q e = rw q (sym (and_false pass) ∙ (rw e at turned_on))
 
   pub all_asked : (i : ℕ) (pass : Bool) → n ≤ i → AllPass i pass → pass ≡ all f (map g (up_to n))
-  all_asked i pass k inv = sym (and-true pass) ∙ sym (done (λ l. pass && all f (map g l)) n i k) ∙ inv
+  all_asked i pass k inv = sym (and_true pass) ∙ sym (done (λ l. pass && all f (map g l)) n i k) ∙ inv
 
   -- where all of more numbers pass, all pass
-  pub all-of-more : (m : ℕ) → n ≤ m → all f (map g (up_to m)) ≡ true → all f (map g (up_to n)) ≡ true
-  all-of-more m h e = is_true (all f (map g (up_to n))) (fewer 0 n m h (from-true (all f (map g (up_to m))) e))
+  pub all_of_more : (m : ℕ) → n ≤ m → all f (map g (up_to m)) ≡ true → all f (map g (up_to n)) ≡ true
+  all_of_more m h e = is_true (all f (map g (up_to n))) (fewer 0 n m h (from_true (all f (map g (up_to m))) e))
     where
-      fewer : (i few many : ℕ) → few ≤ many → T (all f (map g (countFrom i many))) → T (all f (map g (countFrom i few)))
+      fewer : (i few many : ℕ) → few ≤ many → T (all f (map g (count_from i many))) → T (all f (map g (count_from i few)))
       fewer i zero many h t = tt
       fewer i (suc few) zero h t = absurd (omega arith)
       fewer i (suc few) (suc many) h t =
-          and_both (f (g i)) (all f (map g (countFrom (suc i) few))) (and_left (f (g i)) (all f (map g (countFrom (suc i) many))) t)
-          (fewer (suc i) few many (omega arith) (and_right (f (g i)) (all f (map g (countFrom (suc i) many))) t))
+          and_both (f (g i)) (all f (map g (count_from (suc i) few))) (and_left (f (g i)) (all f (map g (count_from (suc i) many))) t)
+          (fewer (suc i) few many (omega arith) (and_right (f (g i)) (all f (map g (count_from (suc i) many))) t))
 
 -- a loop that finds the greatest value of those that pass: the greater of the top so far and the greatest of those left
 module _ (p : ℕ → Bool) (f : ℕ → ℕ) (n : ℕ) where
   abbrev pub TopLeft : (i top : ℕ) → Type 0
   TopLeft i top = max top (greatest f (filter p (left i n))) ≡ greatest f (filter p (up_to n))
 
-  pub top-begin : TopLeft 0 0
-  top-begin = omega (arith, begin (λ l. greatest f (filter p l)) n)
+  pub top_begin : TopLeft 0 0
+  top_begin = omega (arith, begin (λ l. greatest f (filter p l)) n)
 
   pub raised : (i top next : ℕ) → i < n → next ≡ cond (p i) (max top (f i)) top → TopLeft i top → TopLeft (i + 1) next
   raised i top next k e inv = go (p i) refl
@@ -113,8 +113,8 @@ module _ {A : Type 0} (g : ℕ → A) (n : ℕ) where
   abbrev pub Filled : ℕ → List A → Type 0
   Filled i items = take i items ++ map g (left i n) ≡ map g (up_to n)
 
-  pub fill-begin : Filled 0 []
-  fill-begin = begin (map g) n
+  pub fill_begin : Filled 0 []
+  fill_begin = begin (map g) n
 
   pub stored : (i : ℕ) (items : List A) (a : A) → i < n → i < length items → a ≡ g i → Filled i items → Filled (i + 1) (set items i a)
   stored i items a k h e inv =
@@ -126,18 +126,18 @@ module _ {A : Type 0} (g : ℕ → A) (n : ℕ) where
 
 -- the entries of a list made by counting
 
-listed-from : {A : Type 0} (g : ℕ → A) (j n i : ℕ) (d : A) → i < n → get_or (map g (countFrom j n)) i d ≡ g (j + i)
-listed-from g j zero i d h = absurd (omega arith)
-listed-from g j (suc n) zero d h = ap g (omega arith)
-listed-from g j (suc n) (suc i) d h = listed-from g (suc j) n i d (omega arith) ∙ ap g (omega arith)
+listed_from : {A : Type 0} (g : ℕ → A) (j n i : ℕ) (d : A) → i < n → get_or (map g (count_from j n)) i d ≡ g (j + i)
+listed_from g j zero i d h = absurd (omega arith)
+listed_from g j (suc n) zero d h = ap g (omega arith)
+listed_from g j (suc n) (suc i) d h = listed_from g (suc j) n i d (omega arith) ∙ ap g (omega arith)
 
-length-count : (i n : ℕ) → length (countFrom i n) ≡ n
+length-count : (i n : ℕ) → length (count_from i n) ≡ n
 length-count i zero = refl
 length-count i (suc n) = ap suc (length-count (suc i) n)
 
 module _ {A : Type 0} (g : ℕ → A) (n : ℕ) where
   pub listed : (i : ℕ) (d : A) → i < n → get_or (map g (up_to n)) i d ≡ g i
-  listed i d h = listed-from g 0 n i d h ∙ ap g (omega arith)
+  listed i d h = listed_from g 0 n i d h ∙ ap g (omega arith)
 
   pub length-listed : length (map g (up_to n)) ≡ n
   length-listed = length-map (up_to n) g ∙ length-count 0 n
@@ -147,14 +147,14 @@ module _ {A : Type 0} (g : ℕ → A) (n : ℕ) where
 
 -- lists made by counting: with one more number, and where what they are made of agrees
 
-count-more : (i n : ℕ) → countFrom i (suc n) ≡ countFrom i n ++ ((i + n) ∷ [])
-count-more i zero = let z : i ≡ i + 0 = omega arith in ap (λ k. k ∷ []) z
-count-more i (suc n) =
+count_more : (i n : ℕ) → count_from i (suc n) ≡ count_from i n ++ ((i + n) ∷ [])
+count_more i zero = let z : i ≡ i + 0 = omega arith in ap (λ k. k ∷ []) z
+count_more i (suc n) =
     let z : suc i + n ≡ i + suc n = omega arith in
-    ap (λ l. i ∷ l) (count-more (suc i) n ∙ ap (λ k. countFrom (suc i) n ++ (k ∷ [])) z)
+    ap (λ l. i ∷ l) (count_more (suc i) n ∙ ap (λ k. count_from (suc i) n ++ (k ∷ [])) z)
 
-pub upTo-more : (n : ℕ) → up_to (n + 1) ≡ up_to n ++ (n ∷ [])
-upTo-more n = rw add-one (count-more 0 n ∙ ap (λ k. up_to n ++ (k ∷ [])) (omega arith))
+pub up_to_more : (n : ℕ) → up_to (n + 1) ≡ up_to n ++ (n ∷ [])
+up_to_more n = rw add-one (count_more 0 n ∙ ap (λ k. up_to n ++ (k ∷ [])) (omega arith))
 
 pub map-append : {A B : Type 0} (f : A → B) (l m : List A) → map f (l ++ m) ≡ map f l ++ map f m
 map-append f [] m = refl
@@ -162,26 +162,26 @@ map-append f (a ∷ l) m = ap (λ k. f a ∷ k) (map-append f l m)
 
 module _ {A : Type 0} where
   pub listed_more : (g : ℕ → A) (n : ℕ) → map g (up_to (n + 1)) ≡ map g (up_to n) ++ (g n ∷ [])
-  listed_more g n = ap (map g) (upTo-more n) ∙ map-append g (up_to n) (n ∷ [])
+  listed_more g n = ap (map g) (up_to_more n) ∙ map-append g (up_to n) (n ∷ [])
 
-  alike_from : (g h : ℕ → A) (i n : ℕ) → ((k : ℕ) → i ≤ k → k < i + n → g k ≡ h k) → map g (countFrom i n) ≡ map h (countFrom i n)
+  alike_from : (g h : ℕ → A) (i n : ℕ) → ((k : ℕ) → i ≤ k → k < i + n → g k ≡ h k) → map g (count_from i n) ≡ map h (count_from i n)
   alike_from g h i zero e = refl
   alike_from g h i (suc n) e = rw (e i (omega arith) (omega arith), alike_from g h (suc i) n (λ k a b. e k (omega arith) (omega arith)))
 
   -- two functions that agree below n give the same list
-  pub listed-alike : (g h : ℕ → A) (n : ℕ) → ((k : ℕ) → k < n → g k ≡ h k) → map g (up_to n) ≡ map h (up_to n)
-  listed-alike g h n e = alike_from g h 0 n (λ k a b. e k (omega arith))
+  pub listed_alike : (g h : ℕ → A) (n : ℕ) → ((k : ℕ) → k < n → g k ≡ h k) → map g (up_to n) ≡ map h (up_to n)
+  listed_alike g h n e = alike_from g h 0 n (λ k a b. e k (omega arith))
 
 -- an entry stored behind those in use is one more of them
 pub stored_next : {A B : Type 0} (f : A → B) (d a : A) (items : List A) (n : ℕ) → n < length items
     → map (λ i. f (get_or (set items n a) i d)) (up_to (n + 1)) ≡ map (λ i. f (get_or items i d)) (up_to n) ++ (f a ∷ [])
 stored_next f d a items n h =
     listed_more (λ i. f (get_or (set items n a) i d)) n
-    ∙ (rw (get_or-set_same items n a d h, listed-alike (λ i. f (get_or (set items n a) i d)) (λ i. f (get_or items i d)) n (λ k b. ap f (get_or-set_other items n k a d (λ e. omega arith)))))
+    ∙ (rw (get_or-set_same items n a d h, listed_alike (λ i. f (get_or (set items n a) i d)) (λ i. f (get_or items i d)) n (λ k b. ap f (get_or-set_other items n k a d (λ e. omega arith)))))
 
 -- a list made by counting, where what it is made of changes at one place
-pub changed-at : {A : Type 0} (f g : ℕ → A) (n t : ℕ) → ((i : ℕ) → i ≢ t → g i ≡ f i) → map g (up_to n) ≡ set (map f (up_to n)) t (g t)
-changed-at {A} f g n t same' = ext_get_or (g t) (map g (up_to n)) (set (map f (up_to n)) t (g t)) (length-listed g n ∙ sym (length-set (map f (up_to n)) t (g t) ∙ length-listed f n)) at
+pub changed_at : {A : Type 0} (f g : ℕ → A) (n t : ℕ) → ((i : ℕ) → i ≢ t → g i ≡ f i) → map g (up_to n) ≡ set (map f (up_to n)) t (g t)
+changed_at {A} f g n t same' = ext_get_or (g t) (map g (up_to n)) (set (map f (up_to n)) t (g t)) (length-listed g n ∙ sym (length-set (map f (up_to n)) t (g t) ∙ length-listed f n)) at
   where
     at : (i : ℕ) → i < length (map g (up_to n)) → get_or (map g (up_to n)) i (g t) ≡ get_or (set (map f (up_to n)) t (g t)) i (g t)
     at i k = go (equal? i t)

@@ -8,40 +8,40 @@ use native.Mathlib.Omega.{arith}
 use lib.Dec.{T, leb, leb→le}
 use Rattle.model.specs.Searches.{all}
 use Rattle.model.specs.Plan.{Plan}
-use Rattle.model.specs.Records.{Arm, Start, Period, Cancel, Create, Delay, Relinquish, End, Take, Give, Tick, Timing, Record, call, report, isTickRecord}
+use Rattle.model.specs.Records.{Arm, Start, Period, Cancel, Create, Delay, Relinquish, End, Take, Give, Tick, Timing, Record, call, report, is_tick_record}
 use Rattle.model.specs.State.{State, start}
-use Rattle.model.specs.Rules.{Question, firstNo, questions, broken}
+use Rattle.model.specs.Rules.{Question, first_no, questions, broken}
 use Rattle.model.specs.Runs.{effect, moved, broke, outcome, step, run, judge}
-use Rattle.model.specs.Words.{tickOf}
+use Rattle.model.specs.Words.{tick_of}
 use Rattle.model.proofs.Tests.{and_left, and_right}
 use Rattle.model.proofs.Performed.{moves}
-use Rattle.model.proofs.Reached.{Reached, reached-invariant}
-use Rattle.model.proofs.Dues.{tick-counts}
+use Rattle.model.proofs.Reached.{Reached, reached_invariant}
+use Rattle.model.proofs.Dues.{tick_counts}
 
 -- where a run begins
-pub judge-run : (p : Plan) (rs : List Record) → judge p rs ≡ run p 0 rs (start p)
+pub judge_run : (p : Plan) (rs : List Record) → judge p rs ≡ run p 0 rs (start p)
 unfolding judge
-judge-run p rs = refl
+judge_run p rs = refl
 
 -- one record counts one Tick at most
-tick-of : (r : Record) → tickOf (some r) ≤ 1
-tick-of r = go (isTickRecord r)
+tick_of_lem : (r : Record) → tick_of (some r) ≤ 1
+tick_of_lem r = go (is_tick_record r)
   where
     go : (b : Bool) → cond b 1 0 ≤ 1
     go true = omega arith
     go false = omega arith
 
-pub tick-at-most : (p : Plan) (st : State) → Reached p st → (r : Record) (st' : State) → step p st r ≡ moved st' → st'.tickNumber ≤ suc st.tickNumber
-tick-at-most p st b r st' e =
-    let v = reached-invariant p st b in
-    omega (arith, tick-counts p st v (moves p st v.sound r st' e), tick-of r)
+pub tick_at_most : (p : Plan) (st : State) → Reached p st → (r : Record) (st' : State) → step p st r ≡ moved st' → st'.tick_number ≤ suc st.tick_number
+tick_at_most p st b r st' e =
+    let v = reached_invariant p st b in
+    omega (arith, tick_counts p st v (moves p st v.sound r st' e), tick_of_lem r)
 
 -- the number of the first No is that of a question asked
-number-passes : (f : ℕ → Bool) (qs : List Question) → T (all (λ q. f q.number) qs) → (n : ℕ) → firstNo qs ≡ some n → T (f n)
-number-passes f [] t n e = absurd (none-ne-some n e)
-number-passes f (q ∷ qs) t n e = go q.answer (λ i. number-passes f qs (and_right (f q.number) _ t) n i) e
+number_passes : (f : ℕ → Bool) (qs : List Question) → T (all (λ q. f q.number) qs) → (n : ℕ) → first_no qs ≡ some n → T (f n)
+number_passes f [] t n e = absurd (none-ne-some n e)
+number_passes f (q ∷ qs) t n e = go q.answer (λ i. number_passes f qs (and_right (f q.number) _ t) n i) e
   where
-    go : (b : Bool) → (firstNo qs ≡ some n → T (f n)) → cond b (firstNo qs) (some q.number) ≡ some n → T (f n)
+    go : (b : Bool) → (first_no qs ≡ some n → T (f n)) → cond b (first_no qs) (some q.number) ≡ some n → T (f n)
     go true k i = k i
     go false k i = rw (some-injective q.number n i) at (and_left (f q.number) _ t)
 
@@ -63,10 +63,10 @@ module _ (p : Plan) (st : State) where
   numbered (call (Timing (Cancel i))) = tt
   numbered (report r) = tt
 
-  pub broken-rule : (r : Record) (n : ℕ) → step p st r ≡ broke n → (21 ≤ n) × (n ≤ 32)
+  pub broken_rule : (r : Record) (n : ℕ) → step p st r ≡ broke n → (21 ≤ n) × (n ≤ 32)
   unfolding step broken
-  broken-rule r n e = let t = go (broken p st r) refl e in (leb→le 21 n (and_left (leb 21 n) (leb n 32) t), leb→le n 32 (and_right (leb 21 n) (leb n 32) t))
+  broken_rule r n e = let t = go (broken p st r) refl e in (leb→le 21 n (and_left (leb 21 n) (leb n 32) t), leb→le n 32 (and_right (leb 21 n) (leb n 32) t))
     where
       go : (o : Option ℕ) → broken p st r ≡ o → outcome o (effect p r st) ≡ broke n → T (is_number n)
       go none q i = let z : ◌≡◌ {A = ℕ} 0 1 = cc in absurd (omega arith)
-      go (some m) q i = let z : m ≡ n = cc in number-passes is_number (questions p st r) (numbered r) n (q ∙ ap {B = Option ℕ} some z)
+      go (some m) q i = let z : m ≡ n = cc in number_passes is_number (questions p st r) (numbered r) n (q ∙ ap {B = Option ℕ} some z)

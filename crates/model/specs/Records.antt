@@ -5,8 +5,8 @@ use Rattle.model.specs.Searches.{same}
 use Rattle.model.specs.Plan.{Plan, threads}
 
 -- eight timers, 0 to 7
-abbrev pub timerCount : ℕ
-timerCount = 8
+abbrev pub timer_count : ℕ
+timer_count = 8
 
 -- the calls that set timers: Arm, Start and Period arm one
 pub data TimerCall : Type 0 where
@@ -39,30 +39,30 @@ pub data Record : Type 0 where
   call : Call → Record
   report : Report → Record
 
-abbrev pub timerKind : TimerCall → ℕ
-timerKind (Arm i) = 8
-timerKind (Start n) = 9
-timerKind (Period n) = 10
-timerKind (Cancel i) = 11
+abbrev pub timer_kind : TimerCall → ℕ
+timer_kind (Arm i) = 8
+timer_kind (Start n) = 9
+timer_kind (Period n) = 10
+timer_kind (Cancel i) = 11
 
-abbrev pub callKind : Call → ℕ
-callKind (Create t) = 1
-callKind (Delay n) = 2
-callKind Relinquish = 3
-callKind End = 4
-callKind (Take s) = 5
-callKind (Give s) = 6
-callKind Tick = 7
-callKind (Timing k) = timerKind k
+abbrev pub call_kind : Call → ℕ
+call_kind (Create t) = 1
+call_kind (Delay n) = 2
+call_kind Relinquish = 3
+call_kind End = 4
+call_kind (Take s) = 5
+call_kind (Give s) = 6
+call_kind Tick = 7
+call_kind (Timing k) = timer_kind k
 
-abbrev pub reportKind : Report → ℕ
-reportKind (Ready t) = 16
-reportKind (Switch w) = 17
-reportKind (Won t) = 18
-reportKind (Lost t) = 19
-reportKind (Yield t) = 20
-reportKind (Expire i) = 21
-reportKind (Late n) = 22
+abbrev pub report_kind : Report → ℕ
+report_kind (Ready t) = 16
+report_kind (Switch w) = 17
+report_kind (Won t) = 18
+report_kind (Lost t) = 19
+report_kind (Yield t) = 20
+report_kind (Expire i) = 21
+report_kind (Late n) = 22
 
 -- the operand of a report; nobody's is none
 abbrev pub operand : Report → Option ℕ
@@ -78,65 +78,65 @@ operand (Late n) = some n
 abbrev pub nobody : ℕ
 nobody = 65535
 
-abbrev pub operandNumber : Option ℕ → ℕ
-operandNumber none = nobody
-operandNumber (some n) = n
+abbrev pub operand_number : Option ℕ → ℕ
+operand_number none = nobody
+operand_number (some n) = n
 
 -- and back: the thread that the operand of a Switch names
-abbrev pub operandThread : (operand : ℕ) → Option ℕ
-operandThread n = cond (eqb n nobody) none (some n)
+abbrev pub operand_thread : (operand : ℕ) → Option ℕ
+operand_thread n = cond (eqb n nobody) none (some n)
 
-abbrev pub isSwitch : Report → Bool
-isSwitch r = eqb (reportKind r) 17
+abbrev pub is_switch : Report → Bool
+is_switch r = eqb (report_kind r) 17
 
-abbrev pub isExpire : (timer : ℕ) → Report → Bool
-isExpire i r = eqb (reportKind r) 21 && same (operand r) (some i)
+abbrev pub is_expire : (timer : ℕ) → Report → Bool
+is_expire i r = eqb (report_kind r) 21 && same (operand r) (some i)
 
-abbrev pub isTick : Call → Bool
-isTick (Create t) = false
-isTick (Delay n) = false
-isTick Relinquish = false
-isTick End = false
-isTick (Take s) = false
-isTick (Give s) = false
-isTick Tick = true
-isTick (Timing k) = false
+abbrev pub is_tick : Call → Bool
+is_tick (Create t) = false
+is_tick (Delay n) = false
+is_tick Relinquish = false
+is_tick End = false
+is_tick (Take s) = false
+is_tick (Give s) = false
+is_tick Tick = true
+is_tick (Timing k) = false
 
-abbrev pub isTickRecord : Record → Bool
-isTickRecord (call k) = isTick k
-isTickRecord (report r) = false
+abbrev pub is_tick_record : Record → Bool
+is_tick_record (call k) = is_tick k
+is_tick_record (report r) = false
 
-abbrev pub isThread : Plan → Option ℕ → Bool
-isThread p none = true
-isThread p (some t) = ltb t (threads p)
+abbrev pub is_thread : Plan → Option ℕ → Bool
+is_thread p none = true
+is_thread p (some t) = ltb t (threads p)
 
 -- Operand: timer 0 to 7 for Arm, Cancel and Expire, 1 to 65535 for Start, 0 to 65535 for Period and Late.
-abbrev pub allowedTimer : TimerCall → Bool
-allowedTimer (Arm i) = ltb i timerCount
-allowedTimer (Start n) = leb 1 n && leb n 65535
-allowedTimer (Period n) = leb n 65535
-allowedTimer (Cancel i) = ltb i timerCount
+abbrev pub allowed_timer : TimerCall → Bool
+allowed_timer (Arm i) = ltb i timer_count
+allowed_timer (Start n) = leb 1 n && leb n 65535
+allowed_timer (Period n) = leb n 65535
+allowed_timer (Cancel i) = ltb i timer_count
 
 -- Operand: thread below T for Create and reports (or nobody for Switch), section below S for Take and Give, 1 to 65535 for Delay.
-abbrev pub allowedCall : Plan → Call → Bool
-allowedCall p (Create t) = ltb t (threads p)
-allowedCall p (Delay n) = leb 1 n && leb n 65535
-allowedCall p Relinquish = true
-allowedCall p End = true
-allowedCall p (Take s) = ltb s p.sections
-allowedCall p (Give s) = ltb s p.sections
-allowedCall p Tick = true
-allowedCall p (Timing k) = allowedTimer k
+abbrev pub allowed_call : Plan → Call → Bool
+allowed_call p (Create t) = ltb t (threads p)
+allowed_call p (Delay n) = leb 1 n && leb n 65535
+allowed_call p Relinquish = true
+allowed_call p End = true
+allowed_call p (Take s) = ltb s p.sections
+allowed_call p (Give s) = ltb s p.sections
+allowed_call p Tick = true
+allowed_call p (Timing k) = allowed_timer k
 
-abbrev pub allowedReport : Plan → Report → Bool
-allowedReport p (Ready t) = ltb t (threads p)
-allowedReport p (Switch w) = isThread p w
-allowedReport p (Won t) = ltb t (threads p)
-allowedReport p (Lost t) = ltb t (threads p)
-allowedReport p (Yield t) = ltb t (threads p)
-allowedReport p (Expire i) = ltb i timerCount
-allowedReport p (Late n) = leb n 65535
+abbrev pub allowed_report : Plan → Report → Bool
+allowed_report p (Ready t) = ltb t (threads p)
+allowed_report p (Switch w) = is_thread p w
+allowed_report p (Won t) = ltb t (threads p)
+allowed_report p (Lost t) = ltb t (threads p)
+allowed_report p (Yield t) = ltb t (threads p)
+allowed_report p (Expire i) = ltb i timer_count
+allowed_report p (Late n) = leb n 65535
 
 abbrev pub allowed : Plan → Record → Bool
-allowed p (call k) = allowedCall p k
-allowed p (report r) = allowedReport p r
+allowed p (call k) = allowed_call p k
+allowed p (report r) = allowed_report p r

@@ -5,19 +5,19 @@ use Prim.Native.Nat.{ℕ}
 use lib.ListN.{take}
 use Rattle.model.specs.Runs.{clean, breach}
 use Rattle.model.specs.Promise.{Promise}
-use Rattle.model.proofs.Laws.{clean-count, promise, promise-before-breach}
+use Rattle.model.proofs.Laws.{clean_count, promise, promise_before_breach}
 use Rattle.plan.specs.Bytes.{plan_of}
 use Rattle.dump.specs.Layout.{decode}
 use Rattle.monitor.specs.Answers.{judged, check}
-use Rattle.monitor.proofs.Passed.{judged-passed}
+use Rattle.monitor.proofs.Passed.{judged_passed}
 
-pub promise-of-bytes : (plan dump : List ℕ) (n d : ℕ) → check plan dump ≡ judged (clean n d) → Promise (plan_of plan) (decode dump)
-promise-of-bytes plan dump n d e =
-    let j = judged-passed plan dump (clean n d) e in
-    let count = (clean-count (plan_of plan) (decode dump) n d j.1).0 in
+pub promise_of_bytes : (plan dump : List ℕ) (n d : ℕ) → check plan dump ≡ judged (clean n d) → Promise (plan_of plan) (decode dump)
+promise_of_bytes plan dump n d e =
+    let j = judged_passed plan dump (clean n d) e in
+    let count = (clean_count (plan_of plan) (decode dump) n d j.1).0 in
     promise (plan_of plan) (decode dump) (record { plan = j.0.valid; operands = j.0.operands; due = d; verdict = j.1 ∙ ap (λ k. clean k d) count })
 
-pub promise-before : (plan dump : List ℕ) (b r : ℕ) → check plan dump ≡ judged (breach b r) → Promise (plan_of plan) (take b (decode dump))
-promise-before plan dump b r e =
-    let j = judged-passed plan dump (breach b r) e in
-    promise-before-breach (plan_of plan) (decode dump) b r j.0.valid j.0.operands j.1
+pub promise_before : (plan dump : List ℕ) (b r : ℕ) → check plan dump ≡ judged (breach b r) → Promise (plan_of plan) (take b (decode dump))
+promise_before plan dump b r e =
+    let j = judged_passed plan dump (breach b r) e in
+    promise_before_breach (plan_of plan) (decode dump) b r j.0.valid j.0.operands j.1

@@ -18,8 +18,8 @@ or_else none o = o
 or_else (some n) o = some n
 
 -- questions 1 to 4 of the plan, then 5 to 8 of the dump; the first No gives its number
-unfoldable pub firstRefusal : (plan dump : List ℕ) → Option ℕ
-firstRefusal plan dump = or_else (plans.refusal plan) (dumps.refusal (plans.threadCount plan) (plans.sectionCount plan) false dump)
+unfoldable pub first_refusal : (plan dump : List ℕ) → Option ℕ
+first_refusal plan dump = or_else (plans.refusal plan) (dumps.refusal (plans.thread_count plan) (plans.section_count plan) false dump)
 
 abbrev pub answer : Option ℕ → Verdict → Answer
 answer none v = judged v
@@ -27,7 +27,7 @@ answer (some n) v = refused n
 
 -- the whole check
 unfoldable pub check : (plan dump : List ℕ) → Answer
-check plan dump = answer (firstRefusal plan dump) (judge (plans.plan_of plan) (decode dump))
+check plan dump = answer (first_refusal plan dump) (judge (plans.plan_of plan) (decode dump))
 
 -- the answer that a case of the code's enum stands for
 abbrev pub answer_of : declared.Verdict → Answer

@@ -5,16 +5,16 @@ use Rattle.model.specs.Plan as model
 use Rattle.plan.specs.declared.Plan.{Plan}
 
 -- the first entries of an array, one for each thread
-abbrev pub inUse : (threads : ℕ) → List ℕ → List ℕ
-inUse threads entries = map (λ t. get_or entries t 0) (up_to threads)
+abbrev pub in_use : (threads : ℕ) → List ℕ → List ℕ
+in_use threads entries = map (λ t. get_or entries t 0) (up_to threads)
 
 -- the plan that a struct stands for; what its arrays have past the last thread means nothing
 abbrev pub view : Plan → model.Plan
 view p =
     record {
       sections = p.sections;
-      bases = inUse p.threads p.bases;
-      needs = inUse p.threads p.needs;
+      bases = in_use p.threads p.bases;
+      needs = in_use p.threads p.needs;
     }
 
 -- the counts are those of arrays with sixteen entries
@@ -27,9 +27,9 @@ pub record Made (r : Plan) (p : model.Plan) : Type 0 where
   pub fits : Fits r
   pub seen : view r ≡ p
 
--- model's base and mayTake from the parts of the struct that they read: `base (view p) t` is `baseIn p.threads p.bases t`
-abbrev pub baseIn : (threads : ℕ) (bases : List ℕ) (thread : ℕ) → ℕ
-baseIn threads bases t = model.base (record { sections = 0; bases = inUse threads bases; needs = [] }) t
+-- model's base and may_take from the parts of the struct that they read: `base (view p) t` is `base_in p.threads p.bases t`
+abbrev pub base_in : (threads : ℕ) (bases : List ℕ) (thread : ℕ) → ℕ
+base_in threads bases t = model.base (record { sections = 0; bases = in_use threads bases; needs = [] }) t
 
-abbrev pub mayTakeIn : (threads : ℕ) (needs : List ℕ) (thread section : ℕ) → Bool
-mayTakeIn threads needs t s = model.mayTake (record { sections = 0; bases = []; needs = inUse threads needs }) t s
+abbrev pub may_take_in : (threads : ℕ) (needs : List ℕ) (thread section : ℕ) → Bool
+may_take_in threads needs t s = model.may_take (record { sections = 0; bases = []; needs = in_use threads needs }) t s

@@ -1,8 +1,8 @@
 // The plan's bytes: what refuses them, and the plan that they stand for.
 ghost use Rattle.std.specs.Prelude.{◌≡◌, ◌≤◌, ◌<◌, length};
 ghost use Rattle.std.proofs.Math.Option.{none};
-ghost use Rattle.plan.specs.Bytes.{threadCount, plan_of, hasCounts, hasLength, hasPriorities, hasNeeds, refusal, number, Whole};
-ghost use Rattle.plan.specs.View.{inUse, Made};
+ghost use Rattle.plan.specs.Bytes.{thread_count, plan_of, has_counts, has_length, has_priorities, has_needs, refusal, number, Whole};
+ghost use Rattle.plan.specs.View.{in_use, Made};
 ghost use Rattle.plan.specs.Words.{byte};
 
 use crate::words::word_at;
@@ -19,7 +19,7 @@ fn byte_at(bytes: &[u8], place: usize) -> usize
 // The base priorities, one for each thread.
 fn bases_of(bytes: &[u8]) -> [u8; 16]
     requires { Whole bytes.now }
-    ensures { inUse (threadCount bytes.now) result ≡ (plan_of bytes.now).bases }
+    ensures { in_use (thread_count bytes.now) result ≡ (plan_of bytes.now).bases }
 {
     let threads = byte_at(bytes, 0);
     // Past the last thread a priority too, so that all sixteen pass at once.
@@ -35,7 +35,7 @@ fn bases_of(bytes: &[u8]) -> [u8; 16]
 // The needs, one for each thread.
 fn needs_of(bytes: &[u8]) -> [u16; 16]
     requires { Whole bytes.now }
-    ensures { inUse (threadCount bytes.now) result ≡ (plan_of bytes.now).needs }
+    ensures { in_use (thread_count bytes.now) result ≡ (plan_of bytes.now).needs }
 {
     let threads = byte_at(bytes, 0);
     let mut needs = [0u16; 16];
@@ -50,7 +50,7 @@ fn needs_of(bytes: &[u8]) -> [u16; 16]
 
 // 1: Has the plan 2 bytes or more, with T and S in range?
 fn has_counts(bytes: &[u8]) -> bool
-    ensures { result ≡ hasCounts bytes.now }
+    ensures { result ≡ has_counts bytes.now }
 {
     if bytes.len() < 2 {
         return false;
@@ -61,7 +61,7 @@ fn has_counts(bytes: &[u8]) -> bool
 // 2: Is it exactly 2 + 3T long?
 fn has_length(bytes: &[u8]) -> bool
     requires { 2 ≤ length bytes.now }
-    ensures { result ≡ hasLength bytes.now }
+    ensures { result ≡ has_length bytes.now }
 {
     let threads = byte_at(bytes, 0);
     bytes.len() == 2 + 3 * threads
@@ -70,7 +70,7 @@ fn has_length(bytes: &[u8]) -> bool
 // 3: Is every priority 1 to 64?
 fn has_priorities(bytes: &[u8]) -> bool
     requires { Whole bytes.now }
-    ensures { result ≡ hasPriorities bytes.now }
+    ensures { result ≡ has_priorities bytes.now }
 {
     let bases = bases_of(bytes);
     questions::bases_pass(byte_at(bytes, 0), bases)
@@ -79,7 +79,7 @@ fn has_priorities(bytes: &[u8]) -> bool
 // 4: Is every needs bit at S or above zero?
 fn has_needs(bytes: &[u8]) -> bool
     requires { Whole bytes.now }
-    ensures { result ≡ hasNeeds bytes.now }
+    ensures { result ≡ has_needs bytes.now }
 {
     let needs = needs_of(bytes);
     questions::needs_pass(byte_at(bytes, 0), byte_at(bytes, 1), needs)

@@ -1,9 +1,9 @@
 // Questions 1, 3 and 4, asked of a plan's numbers.
 ghost use Rattle.std.specs.Prelude.{◌≡◌, ◌≤◌};
 ghost use Rattle.model.specs.Searches.{all};
-ghost use Rattle.model.specs.Plan.{validPlan};
-ghost use Rattle.plan.specs.Bytes.{between, in_range, isPriority, needsWithin};
-ghost use Rattle.plan.specs.View.{inUse, view};
+ghost use Rattle.model.specs.Plan.{valid_plan};
+ghost use Rattle.plan.specs.Bytes.{between, in_range, is_priority, needs_within};
+ghost use Rattle.plan.specs.View.{in_use, view};
 
 use crate::Plan;
 
@@ -23,7 +23,7 @@ pub(crate) fn in_range(threads: usize, sections: usize) -> bool
 
 // A base priority: 1 to 64.
 fn is_priority(base: u8) -> bool
-    ensures { result ≡ isPriority base }
+    ensures { result ≡ is_priority base }
 {
     between(1, 64, base as usize)
 }
@@ -31,7 +31,7 @@ fn is_priority(base: u8) -> bool
 // Every needs bit of one thread at S or above is zero.
 fn needs_within(sections: usize, needs: u16) -> bool
     requires { sections ≤ 16 }
-    ensures { result ≡ needsWithin sections needs }
+    ensures { result ≡ needs_within sections needs }
 {
     let above = (needs as u32) >> (sections as u32);
     above == 0
@@ -40,7 +40,7 @@ fn needs_within(sections: usize, needs: u16) -> bool
 // 3: Is every priority 1 to 64?
 pub(crate) fn bases_pass(threads: usize, bases: [u8; 16]) -> bool
     requires { threads ≤ 16 }
-    ensures { result ≡ all isPriority (inUse threads bases) }
+    ensures { result ≡ all is_priority (in_use threads bases) }
 {
     let mut t: usize = 0;
     while t < threads {
@@ -55,7 +55,7 @@ pub(crate) fn bases_pass(threads: usize, bases: [u8; 16]) -> bool
 // 4: Is every needs bit at S or above zero?
 pub(crate) fn needs_pass(threads: usize, sections: usize, needs: [u16; 16]) -> bool
     requires { (threads ≤ 16) × (sections ≤ 16) }
-    ensures { result ≡ all (needsWithin sections) (inUse threads needs) }
+    ensures { result ≡ all (needs_within sections) (in_use threads needs) }
 {
     let mut t: usize = 0;
     while t < threads {
@@ -69,7 +69,7 @@ pub(crate) fn needs_pass(threads: usize, sections: usize, needs: [u16; 16]) -> b
 
 // Whether all sixteen entries are priorities, those past the last thread too: asked at once, without an early end.
 fn all_priorities(bases: [u8; 16]) -> bool
-    ensures { result ≡ all isPriority (inUse 16 bases) }
+    ensures { result ≡ all is_priority (in_use 16 bases) }
 {
     let mut pass = true;
     let mut t: usize = 0;
@@ -85,7 +85,7 @@ fn all_priorities(bases: [u8; 16]) -> bool
 // Whether all sixteen entries have no bit at S or above, in the same way.
 fn all_within(sections: usize, needs: [u16; 16]) -> bool
     requires { sections ≤ 16 }
-    ensures { result ≡ all (needsWithin sections) (inUse 16 needs) }
+    ensures { result ≡ all (needs_within sections) (in_use 16 needs) }
 {
     let mut within = true;
     let mut t: usize = 0;
@@ -101,7 +101,7 @@ fn all_within(sections: usize, needs: [u16; 16]) -> bool
 // Whether a plan that came from outside passes; the counts are tested before an entry is read. Rules out passing all, and
 // asking about entries past the last thread.
 pub fn passes(plan: Plan) -> bool
-    ensures { result ≡ validPlan (view plan) }
+    ensures { result ≡ valid_plan (view plan) }
 {
     let threads = plan.threads;
     let sections = plan.sections;

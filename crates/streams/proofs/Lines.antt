@@ -12,9 +12,9 @@ pub no_byte : (before : List ℕ) (at : ℕ) → take (at + 0) before ≡ take a
 no_byte before at = let z : at + 0 ≡ at = omega arith in rw (z, append-nil)
 
 -- one byte more of a piece, behind a text that ends at `at`
-pub next-byte : (piece before out : List ℕ) (at i : ℕ) → i < length piece → at + i < length out → take (at + i) out ≡ take at before ++ take i piece
+pub next_byte : (piece before out : List ℕ) (at i : ℕ) → i < length piece → at + i < length out → take (at + i) out ≡ take at before ++ take i piece
     → take (at + (i + 1)) (set out (at + i) (get_or piece i 0)) ≡ take at before ++ take (i + 1) piece
-next-byte piece before out at i h k e =
+next_byte piece before out at i h k e =
     let one : List ℕ = get_or piece i 0 ∷ [] in
     let z : at + (i + 1) ≡ suc (at + i) = omega arith in
     rw (z, add-one i)
@@ -24,8 +24,8 @@ next-byte piece before out at i h k e =
     ∙ ap (λ l. take at before ++ l) (sym (take-suc piece i 0 h)))
 
 -- all of its bytes
-pub all-bytes : (piece before out : List ℕ) (at i : ℕ) → length piece ≤ i → take (at + i) out ≡ take at before ++ take i piece → take (at + i) out ≡ take at before ++ piece
-all-bytes piece before out at i h e = e ∙ ap (λ l. take at before ++ l) (take_all i piece h)
+pub all_bytes : (piece before out : List ℕ) (at i : ℕ) → length piece ≤ i → take (at + i) out ≡ take at before ++ take i piece → take (at + i) out ≡ take at before ++ piece
+all_bytes piece before out at i h e = e ∙ ap (λ l. take at before ++ l) (take_all i piece h)
 
 -- a piece behind a piece
 pub joined : (text first second : List ℕ) {before after : List ℕ} → after ≡ before ++ second → before ≡ text ++ first → after ≡ text ++ (first ++ second)

@@ -15,15 +15,15 @@ use Rattle.io.specs.Counts.{IsPrefixLen}
 use Rattle.libc.specs.Io as libc
 use Rattle.streams.specs.declared.input.Outcome.{Outcome}
 use Rattle.streams.specs.declared.input.Outcome.TheVariants.{Ended, Moved}
-use Rattle.streams.specs.Input.{meaningOf}
+use Rattle.streams.specs.Input.{meaning_of}
 
-some-moved : (z : ℤ) (most n : ℕ) → libc.Moved most z → meaningOf z ≡ Moved n → (1 ≤ n) × (n ≤ most)
-some-moved (pos k) most n h e = go (eqb k 0) refl e
+some_moved : (z : ℤ) (most n : ℕ) → libc.Moved most z → meaning_of z ≡ Moved n → (1 ≤ n) × (n ≤ most)
+some_moved (pos k) most n h e = go (eqb k 0) refl e
   where
     go : (b : Bool) → eqb k 0 ≡ b → cond b Ended (Moved k) ≡ Moved n → (1 ≤ n) × (n ≤ most)
     go true q e = let z : ◌≡◌ {A = ℕ} 0 1 = cc in absurd (omega arith)
     go false q e = let same : k ≡ n = cc in let some : 0 < k = pos_of_ne-zero (eqb-false k 0 q) in (omega arith, omega arith)
-some-moved (negsuc k) most n h e = let z : ◌≡◌ {A = ℕ} 0 1 = cc in absurd (omega arith)
+some_moved (negsuc k) most n h e = let z : ◌≡◌ {A = ℕ} 0 1 = cc in absurd (omega arith)
 
 -- a number of bytes that the buffer has counts bytes at its front
 pub counts : (n : ℕ) (buf : List ℕ) → n ≤ length buf → IsPrefixLen n buf
@@ -37,7 +37,7 @@ module _ (buf rest : List ℕ) (done : ℕ) (within : done ≤ length buf) (kept
   pub as_long : length (put_mid done (length buf - done) buf rest) ≡ length buf
   as_long = same_len_mid done (length buf - done) buf rest kept
 
-  pub filled : (answer read : ℤ) (o : Outcome) (n : ℕ) → libc.Moved (length (mid_of done (length buf - done) buf)) answer → read ≡ answer → o ≡ meaningOf read → o ≡ Moved n → (1 ≤ n) × (done + n ≤ length buf)
+  pub filled : (answer read : ℤ) (o : Outcome) (n : ℕ) → libc.Moved (length (mid_of done (length buf - done) buf)) answer → read ≡ answer → o ≡ meaning_of read → o ≡ Moved n → (1 ≤ n) × (done + n ≤ length buf)
   filled answer read o n h e q m =
-      let s = some-moved answer (length (mid_of done (length buf - done) buf)) n h (ap meaningOf (sym e) ∙ sym q ∙ m) in
+      let s = some_moved answer (length (mid_of done (length buf - done) buf)) n h (ap meaning_of (sym e) ∙ sym q ∙ m) in
       (s.0, omega (arith, s.1, lent))

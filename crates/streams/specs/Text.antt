@@ -13,13 +13,13 @@ abbrev pub digit : ℕ → ℕ
 digit d = 48 + d
 
 -- The decimal digits of a number: below ten its one digit, else those of its tenth and then the last. So no zero stands in front of another
--- digit. Any d above n allows for all of them: law decimal-by-tenth of proofs/Decimal.antt says it without d.
-abbrev pub decimalWithin : (d n : ℕ) → List ℕ
-decimalWithin zero n = []
-decimalWithin (suc d) n = cond (ltb n 10) (digit n ∷ []) (decimalWithin d (n / 10) ++ digit (n % 10) ∷ [])
+-- digit. Any d above n allows for all of them: law decimal_by_tenth of proofs/Decimal.antt says it without d.
+abbrev pub decimal_within : (d n : ℕ) → List ℕ
+decimal_within zero n = []
+decimal_within (suc d) n = cond (ltb n 10) (digit n ∷ []) (decimal_within d (n / 10) ++ digit (n % 10) ∷ [])
 
 unfoldable pub decimal : ℕ → List ℕ
-decimal n = decimalWithin (suc n) n
+decimal n = decimal_within (suc n) n
 
 -- the words with a space between each two, and a line feed behind the last
 abbrev pub line : List (List ℕ) → List ℕ

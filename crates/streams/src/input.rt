@@ -1,7 +1,7 @@
 // Standard input, as far as a buffer holds it, and whether it could be read.
 ghost use Rattle.std.specs.Prelude.{◌≡◌, true};
 ghost use Rattle.io.specs.Counts.{IsPrefixLen};
-ghost use Rattle.streams.specs.Input.{meaningOf};
+ghost use Rattle.streams.specs.Input.{meaning_of};
 
 use libc::STDIN_FILENO;
 
@@ -22,7 +22,7 @@ pub struct Input {
 
 // By the number that C answers. Rules out taking a failure for the end of the input.
 fn meaning(got: isize) -> Outcome
-    ensures { result ≡ meaningOf got }
+    ensures { result ≡ meaning_of got }
 {
     if got < 0 {
         return Outcome::Failed;

@@ -1,7 +1,7 @@
 // A walk over one record: what the live step and the bench kernel take.
 ghost use Rattle.std.specs.Prelude.{◌≡◌};
-ghost use Rattle.dump.specs.Layout.{recordCount, recordAt, runningPlace};
-ghost use Rattle.walk.specs.Contracts.{Single, Advances};
+ghost use Rattle.dump.specs.Layout.{record_count, record_at, running_place};
+ghost use Rattle.walk.specs.Clauses.{Single, Advances};
 
 use crate::walk::walk;
 use machine::state::State;
@@ -15,8 +15,8 @@ pub struct Stepped {
 
 // What record i of a dump or call list, with its running place, does to the state, or the rule that it breaks: see model, Runs.step.
 pub fn step(state: State, ceilings: &[u8; 16], bytes: &[u8], i: usize, running: usize) -> Stepped
-    requires { Single state ceilings.now bytes.now i × (running ≡ runningPlace (recordCount bytes.now) i) }
-    ensures { Advances result.state result.rule state (recordAt bytes.now i) }
+    requires { Single state ceilings.now bytes.now i × (running ≡ running_place (record_count bytes.now) i) }
+    ensures { Advances result.state result.rule state (record_at bytes.now i) }
 {
     let w = walk(state, ceilings, bytes, i, running, i + 1);
     let after = w.state;

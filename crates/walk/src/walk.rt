@@ -1,8 +1,8 @@
 // The one loop over records: the whole check walks over all of a dump, the bench kernel over one call of its list after another, a live step
 // over one record.
 ghost use Rattle.std.specs.Prelude.{◌≡◌};
-ghost use Rattle.dump.specs.Layout.{recordCount, runningPlace};
-ghost use Rattle.walk.specs.Contracts.{Walks, WalkEnds};
+ghost use Rattle.dump.specs.Layout.{record_count, running_place};
+ghost use Rattle.walk.specs.Clauses.{Walks, WalkEnds};
 
 use dump::place::entry_at;
 use dump::records::record_of;
@@ -27,7 +27,7 @@ pub fn walk(
     place: usize,
     to: usize,
 ) -> Walked
-    requires { Walks s ceilings.now bytes.now from to × (place ≡ runningPlace (recordCount bytes.now) from) }
+    requires { Walks s ceilings.now bytes.now from to × (place ≡ running_place (record_count bytes.now) from) }
     ensures { WalkEnds result s bytes.now from to }
 {
     let mut c = s.opened();

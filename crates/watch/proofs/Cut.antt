@@ -7,14 +7,14 @@ use Prim.Native.Nat.{ℕ}
 use native.Mathlib.Omega.{arith}
 use lib.ListN.{take}
 use Rattle.monitor.specs.Answers.{refused, check}
-use Rattle.monitor.proofs.Laws.{refused-check}
-use Rattle.streams.proofs.Laws.{cut-same}
+use Rattle.monitor.proofs.Laws.{refused_check}
+use Rattle.streams.proofs.Laws.{cut_same}
 use Rattle.watch.specs.Printed.{answered, line_of, printed}
 
 -- the buffer has 65,536 bytes
 
-pub cut-answered : (input : List ℕ) → answered (take 65536 input) ≡ answered input
-cut-answered input = cut-same false check refused refused-check 65536 (omega arith) input
+pub cut_answered : (input : List ℕ) → answered (take 65536 input) ≡ answered input
+cut_answered input = cut_same false check refused refused_check 65536 (omega arith) input
 
-pub cut-printed : (input : List ℕ) → printed (take 65536 input) ≡ printed input
-cut-printed input = ap line_of (cut-answered input)
+pub cut_printed : (input : List ℕ) → printed (take 65536 input) ≡ printed input
+cut_printed input = ap line_of (cut_answered input)

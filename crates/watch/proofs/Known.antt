@@ -1,12 +1,12 @@
 -- The bytes that document 01 gives for run A are printed as it says.
 use mathlib.Core.Path.{◌≡◌, ap, ◌∙◌}
 use mathlib.Core.List.{◌++◌}
-use Rattle.plan.specs.Known.{planABytes}
-use Rattle.monitor.specs.Known.{dumpABytes}
-use Rattle.monitor.proofs.Laws.{run-A}
+use Rattle.plan.specs.Known.{plan_aBytes}
+use Rattle.monitor.specs.Known.{dump_aBytes}
+use Rattle.monitor.proofs.Laws.{run_a_lem}
 use Rattle.streams.specs.Text.{ascii}
-use Rattle.streams.proofs.Laws.{decimal-by-tenth}
+use Rattle.streams.proofs.Laws.{decimal_by_tenth}
 use Rattle.watch.specs.Printed.{line_of, printed}
 
-pub run-A-printed : printed (planABytes ++ dumpABytes) ≡ ascii "clean 17 0\n"
-run-A-printed = ap line_of run-A ∙ rw (decimal-by-tenth 17, decimal-by-tenth 1, decimal-by-tenth 0)
+pub run_a_printed : printed (plan_aBytes ++ dump_aBytes) ≡ ascii "clean 17 0\n"
+run_a_printed = ap line_of run_a_lem ∙ rw (decimal_by_tenth 17, decimal_by_tenth 1, decimal_by_tenth 0)

@@ -3,11 +3,11 @@ use Rattle.std.specs.Prelude.{List, [], ◌∷◌, ℕ}
 use Rattle.model.specs.Runs.{clean, breach}
 use Rattle.monitor.specs.Answers.{Answer, refused, judged, check}
 use Rattle.streams.specs.Text.{ascii, decimal, line}
-use Rattle.streams.specs.Input.{planIn, behindPlan}
+use Rattle.streams.specs.Input.{plan_in, behind_plan}
 
 -- a plan and then a dump
 abbrev pub answered : (input : List ℕ) → Answer
-answered input = check (planIn input) (behindPlan input)
+answered input = check (plan_in input) (behind_plan input)
 
 -- one line: `clean`, records, due; or `breach`, record from 0, rule; or `refused`, number
 abbrev pub line_of : Answer → List ℕ

@@ -4,13 +4,13 @@ use Prim.Native.Nat.{◌≤◌}
 use native.Mathlib.Omega.{arith}
 use borrow.Author.Rules.{rules}
 use lib.ListN.{length, take}
-use Rattle.kernel.specs.Answers.{bytesFor, answer_of}
+use Rattle.kernel.specs.Answers.{bytes_for, answer_of}
 use Rattle.kernel.specs.declared.bench.Written.{Written}
 use Rattle.kernel.specs.declared.bench.Written.TheVariants.{Wrote}
-use Rattle.kernel.proofs.Laws.{written-fits}
-use Rattle.streams.specs.Input.{planIn, behindPlan}
+use Rattle.kernel.proofs.Laws.{written_fits}
+use Rattle.streams.specs.Input.{plan_in, behind_plan}
 use Rattle.streams.proofs.Laws.{counts}
-use Rattle.bench.specs.Printed.{answered, filled, dumpIn, line_of}
+use Rattle.bench.specs.Printed.{answered, filled, dump_in, line_of}
 use Rattle.bench.proofs.written.Statement.{statement}
 use Rattle.bench.proofs.written.Tie as tie
 
@@ -27,12 +27,12 @@ told : (a : tie.After-answer) (case : Written) → a.answer.result ≡ case → 
 told a case q = ap answer_of (sym q) ∙ a.answer.ensures.0
 
 -- what was written fits the output
-room : (c : tie.After-records) → bytesFor c.records.given.0.0 ≤ length (start (answer_at c)).args.out.now
+room : (c : tie.After-records) → bytes_for c.records.given.0.0 ≤ length (start (answer_at c)).args.out.now
 room c =
     let a = answer_at c in
     let s = (start a).args in
     let e = c.records.given in
-    written-fits (planIn s.input.now) (behindPlan s.input.now) (length s.out.now) e.0.0 (sym (told a (Wrote e.0.0) e.1))
+    written_fits (plan_in s.input.now) (behind_plan s.input.now) (length s.out.now) e.0.0 (sym (told a (Wrote e.0.0) e.1))
 
 answer-requires : tie.Need-answer-requires
 answer-requires c κs = search rules
@@ -69,7 +69,7 @@ returns c =
     let s = (start a).args in
     let t = told a _ q.question.given.1 in (
       ((omega arith, refl), o.ensures.0),
-      (ap (λ x. dumpIn x (filled s.input.now s.out.now)) t, o.ensures.1 ∙ ap line_of t),
+      (ap (λ x. dump_in x (filled s.input.now s.out.now)) t, o.ensures.1 ∙ ap line_of t),
     )
 
 same-length-2 : tie.Need-same-length-2
@@ -82,8 +82,8 @@ returns-2 c =
     let s = (start a).args in
     let t = told a _ e.1 in
     let r = room c.before in (
-      (counts (bytesFor e.0.0) a.answer.last.1.0 (omega (arith, a.answer.kept.1.0)), (omega arith, refl)),
-      (ap (take (bytesFor e.0.0)) a.answer.ensures.1 ∙ ap (λ x. dumpIn x (filled s.input.now s.out.now)) t, ap line_of t),
+      (counts (bytes_for e.0.0) a.answer.last.1.0 (omega (arith, a.answer.kept.1.0)), (omega arith, refl)),
+      (ap (take (bytes_for e.0.0)) a.answer.ensures.1 ∙ ap (λ x. dump_in x (filled s.input.now s.out.now)) t, ap line_of t),
     )
 
 pub written-spec : {M : Type 1} → statement M

@@ -5,17 +5,17 @@ use mathlib.Core.Option.{Option, none, some, some-ne-none}
 use Prim.Native.Nat.{ℕ}
 use borrow.Author.Rules.{rules}
 use Rattle.plan.specs.Bytes.{refusal, number}
-use Rattle.plan.proofs.Laws.{refusal-zero}
-use Rattle.live.specs.Watching.{Watched, watchedUnless, begin}
-use Rattle.live.specs.Contracts.{seen}
+use Rattle.plan.proofs.Laws.{refusal_zero}
+use Rattle.live.specs.Watching.{Watched, watched_unless, begin}
+use Rattle.live.specs.Clauses.{seen}
 use Rattle.exports.proofs.begun.Statement.{statement}
 use Rattle.exports.proofs.begun.Tie as tie
 
-kept : (o : Option ℕ) (made came : Watched) → number o ≢ 0 → came ≡ watchedUnless o made came
+kept : (o : Option ℕ) (made came : Watched) → number o ≢ 0 → came ≡ watched_unless o made came
 kept none made came d = absurd (d refl)
 kept (some q) made came d = refl
 
-passed : (o : Option ℕ) (made came : Watched) → o ≡ none → made ≡ watchedUnless o made came
+passed : (o : Option ℕ) (made came : Watched) → o ≡ none → made ≡ watched_unless o made came
 passed o made came e = rw e
 
 begin-requires : tie.Need-begin-requires
@@ -35,7 +35,7 @@ returns-2 : tie.Need-returns-2
 returns-2 c =
     let b = c.before.before.begin.ensures in
     let a = c.before.before.before.before.args in
-    let z = refusal-zero a.plan.now (sym b.answer ∙ c.if1.false) in
+    let z = refusal_zero a.plan.now (sym b.answer ∙ c.if1.false) in
     record {
       answer' = b.answer;
       leaves = b.leaves ∙ passed (refusal a.plan.now) (begin a.plan.now) (seen a.old) z;

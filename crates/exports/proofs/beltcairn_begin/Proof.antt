@@ -45,7 +45,7 @@ use Rattle.live.specs.contracts.live.Watch as W
 use Rattle.live.proofs.live.Watch.TheLaws as W'
 use Rattle.live.specs.contracts.live.Begun as B
 use Rattle.live.proofs.live.Begun.TheLaws as B'
-use Rattle.exports.specs.Contracts.{Begins}
+use Rattle.exports.specs.Clauses.{Begins}
 use Rattle.exports.specs.contracts.begun as begun
 use Rattle.exports.proofs.begun.Symbol as begun-def
 use Rattle.exports.proofs.begun.Symbol.{name as #exports·begun}

@@ -4,13 +4,13 @@ use mathlib.Core.List.{List}
 use Prim.Native.Nat.{ℕ}
 use borrow.Author.Rules.{rules}
 use Rattle.kernel.specs.Answers.{Answer, answer_of}
-use Rattle.exports.specs.Numbers.{writtenNumber, writtenRecords}
+use Rattle.exports.specs.Numbers.{written_number, written_records}
 use Rattle.exports.proofs.beltcairn_bench.Statement.{statement}
 use Rattle.exports.proofs.beltcairn_bench.Tie as tie
 
 -- one answer has one number and one count; the output's bytes stand between them
-values : {a b : Answer} {left out : List ℕ} (records : ℕ) → a ≡ b → left ≡ out → (writtenNumber a ≡ writtenNumber b) × ((left ≡ out) × (writtenRecords a records ≡ writtenRecords b records))
-values records e f = (ap writtenNumber e, (f, ap (λ a. writtenRecords a records) e))
+values : {a b : Answer} {left out : List ℕ} (records : ℕ) → a ≡ b → left ≡ out → (written_number a ≡ written_number b) × ((left ≡ out) × (written_records a records ≡ written_records b records))
+values records e f = (ap written_number e, (f, ap (λ a. written_records a records) e))
 
 bench-requires : tie.Need-bench-requires
 bench-requires c κs = search rules

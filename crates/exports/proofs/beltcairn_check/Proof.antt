@@ -3,13 +3,13 @@ use mathlib.Core.Path.{◌≡◌, ap, sym, ◌∙◌}
 use Prim.Native.Nat.{ℕ}
 use borrow.Author.Rules.{rules}
 use Rattle.monitor.specs.Answers.{Answer, answer_of}
-use Rattle.exports.specs.Numbers.{verdictNumber, verdictAt, verdictDue}
+use Rattle.exports.specs.Numbers.{verdict_number, verdict_at, verdict_due}
 use Rattle.exports.proofs.beltcairn_check.Statement.{statement}
 use Rattle.exports.proofs.beltcairn_check.Tie as tie
 
 -- one answer has one number and one value for each place
-values : {a b : Answer} (at due : ℕ) → a ≡ b → (verdictNumber a ≡ verdictNumber b) × ((verdictAt a at ≡ verdictAt b at) × (verdictDue a due ≡ verdictDue b due))
-values at due e = (ap verdictNumber e, (ap (λ a. verdictAt a at) e, ap (λ a. verdictDue a due) e))
+values : {a b : Answer} (at due : ℕ) → a ≡ b → (verdict_number a ≡ verdict_number b) × ((verdict_at a at ≡ verdict_at b at) × (verdict_due a due ≡ verdict_due b due))
+values at due e = (ap verdict_number e, (ap (λ a. verdict_at a at) e, ap (λ a. verdict_due a due) e))
 
 check-requires : tie.Need-check-requires
 check-requires c κs = search rules

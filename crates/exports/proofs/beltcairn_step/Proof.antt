@@ -34,7 +34,7 @@ use denote.Triple.Clauses.{ensured, lasts}
 use denote.Exit.{yes}
 use Rattle.live.specs.declared.live.Watch.{Watch}
 use Rattle.live.specs.declared.live.Reply.{Reply}
-use Rattle.live.specs.Contracts as live
+use Rattle.live.specs.Clauses as live
 use Rattle.live.specs.contracts.live.Watch as W
 use Rattle.live.specs.contracts.live.Reply as R
 use Rattle.live.proofs.live.Reply.TheLaws as R'
@@ -42,8 +42,8 @@ use Rattle.live.specs.contracts.lent.step as lent
 use Rattle.live.proofs.lent.step.Symbol as lent-def
 use Rattle.live.proofs.lent.step.Symbol.{name as #live·lent·step}
 use Rattle.live.proofs.lent.step.Met as lent-thm
-use Rattle.exports.specs.Numbers.{replyNumber, replyDue}
-use Rattle.exports.specs.Contracts.{Tells, Steps}
+use Rattle.exports.specs.Numbers.{reply_number, reply_due}
+use Rattle.exports.specs.Clauses.{Tells, Steps}
 use Rattle.exports.specs.contracts.tell as tell
 use Rattle.exports.proofs.tell.Symbol as tell-def
 use Rattle.exports.proofs.tell.Symbol.{name as #exports·tell}
@@ -57,8 +57,8 @@ use Rattle.exports.proofs.beltcairn_step.Code as code
 steps : {w w' : Watch} {k n : ℕ} {r : Reply} {a d d' : ℕ} → live.Tells (record { watch = w'; reply = r }) w k n → Tells a d' d r → Steps a w' w k n d' d
 steps {d = d} e f =
     record {
-      answer' = f.answer' ∙ ap replyNumber e.answer;
-      due' = f.due' ∙ ap (λ y. replyDue y d) e.answer;
+      answer' = f.answer' ∙ ap reply_number e.answer;
+      due' = f.due' ∙ ap (λ y. reply_due y d) e.answer;
       leaves = e.leaves;
       refused' = e.refused';
       stored' = e.stored';

@@ -2,16 +2,16 @@
 use mathlib.Core.Path.{◌≡◌, ap, sym}
 use Prim.Native.Nat.{ℕ}
 use borrow.Author.Rules.{rules}
-use Rattle.live.specs.Contracts.{replyAs}
+use Rattle.live.specs.Clauses.{reply_as}
 use Rattle.live.specs.declared.live.Reply.{Reply}
-use Rattle.exports.specs.Numbers.{replyNumber, replyDue}
-use Rattle.exports.specs.Contracts.{Tells}
+use Rattle.exports.specs.Numbers.{reply_number, reply_due}
+use Rattle.exports.specs.Clauses.{Tells}
 use Rattle.exports.proofs.tell.Statement.{statement}
 use Rattle.exports.proofs.tell.Tie as tie
 
 -- one reply has one number and one value
-values : {r s : Reply} (due : ℕ) → r ≡ s → Tells (replyNumber (replyAs r)) (replyDue (replyAs r) due) due s
-values due e = record { answer' = ap (λ r. replyNumber (replyAs r)) e; due' = ap (λ r. replyDue (replyAs r) due) e }
+values : {r s : Reply} (due : ℕ) → r ≡ s → Tells (reply_number (reply_as r)) (reply_due (reply_as r) due) due s
+values due e = record { answer' = ap (λ r. reply_number (reply_as r)) e; due' = ap (λ r. reply_due (reply_as r) due) e }
 
 enum-known-reply : tie.Need-enum-known-reply
 enum-known-reply c = search rules

@@ -16,9 +16,9 @@ again =
     ++ made Tick []
 
 -- A thread that delays again goes behind those that sleep already.
-pub again-last : judge pair (again ++ made Tick (Ready 1 ∷ Ready 0 ∷ Switch (some 1) ∷ [])) ≡ clean 20 0
+pub again_last : judge pair (again ++ made Tick (Ready 1 ∷ Ready 0 ∷ Switch (some 1) ∷ [])) ≡ clean 20 0
 unfolding judged
-again-last = refl
+again_last = refl
 
 pub not_first : judge pair (again ++ made Tick (Ready 0 ∷ Ready 1 ∷ Switch (some 0) ∷ [])) ≡ breach 17 30
 unfolding judged

@@ -7,7 +7,7 @@ use borrow.Author.Rules.{rules}
 use borrow.Author.Tests.{eq-eqb, ne_eqb}
 use Rattle.model.specs.Timers.{timer, again}
 use Rattle.clock.specs.View.{slot_of}
-use Rattle.clock.proofs.Slots.{is-armed}
+use Rattle.clock.proofs.Slots.{is_armed_lem}
 use Rattle.clock.proofs.timers.again.Statement.{statement}
 use Rattle.clock.proofs.timers.again.Tie as tie
 
@@ -18,7 +18,7 @@ plus-requires : tie.Need-plus-requires
 plus-requires c κs = search rules
 
 periodic : (e k n : ℕ) → 0 < k → n ≢ 0 → e ≡ k + n → slot_of e n ≡ again (timer k n)
-periodic e k n h d s = ap (λ x. slot_of x n) s ∙ is-armed {e = k + n} n (λ z. omega arith) ∙ (rw (ne_eqb n 0 d))
+periodic e k n h d s = ap (λ x. slot_of x n) s ∙ is_armed_lem {e = k + n} n (λ z. omega arith) ∙ (rw (ne_eqb n 0 d))
 
 returns-2 : tie.Need-returns-2
 returns-2 c =

@@ -35,7 +35,7 @@ use denote.Triple.Table.{entered, cited}
 use denote.Triple.Walked.{says, needs, Stays, stay_none, stay_none_slice, walk_of, Goes-none, Goes-none_slice, Walks, ends_at, walked, walk_Meets}
 use denote.Exit.{yes}
 use denote.Triple.Clauses.{ensured, lasts}
-use Rattle.dump.specs.Layout.{recordCount, kindAt, operand_at, runningPlace}
+use Rattle.dump.specs.Layout.{record_count, kind_at, operand_at, running_place}
 use Rattle.dump.specs.Questions.{Whole}
 use Rattle.dump.specs.declared.layout.Entry.{Entry}
 use Rattle.dump.specs.declared.place.Place.{Place}
@@ -66,14 +66,14 @@ Made s i r = (r.bytes ≡ s) × (r.number ≡ i)
 
 -- a record is next, and the running place is its own
 abbrev Next : List ℕ → (i running : ℕ) → Type 0
-Next bytes i running = Whole bytes × (i < recordCount bytes) × (running ≡ runningPlace (recordCount bytes) i)
+Next bytes i running = Whole bytes × (i < record_count bytes) × (running ≡ running_place (record_count bytes) i)
 
 -- e has the numbers of record i
 abbrev Found : List ℕ → ℕ → Entry → Type 0
-Found bytes i e = (e.kind ≡ kindAt bytes i) × (e.operand ≡ operand_at bytes i)
+Found bytes i e = (e.kind ≡ kind_at bytes i) × (e.operand ≡ operand_at bytes i)
 
-is-next : (s : Bor (List ℕ)) (i running : ℕ) (r : Place) → Made s i r → Next s.now i running → Next r.bytes.now r.number running
-is-next s i running r made next = rw (made.0, made.1) next
+is_next : (s : Bor (List ℕ)) (i running : ℕ) (r : Place) → Made s i r → Next s.now i running → Next r.bytes.now r.number running
+is_next s i running r made next = rw (made.0, made.1) next
 
 is_found : (s : Bor (List ℕ)) (i : ℕ) (r : Place) (e : Entry) → Made s i r → Found r.bytes.now r.number e → Found s.now i e
 is_found s i r e made found = rw (← made.0, ← made.1) found
@@ -157,7 +157,7 @@ module _ {M : Type 1} {𝓤 : Ura M} (𝓛 : Logic 𝓤) (mem : Memory → SProp
         -- [what the place owns; the token; what s owns; room for _4; …; _3; …; _2; …; _1; …; room for _0; …]
         peeks ! (PlaceAt (κ, tt)) (Is (PlaceAt (κ, tt))) (shows 𝓛 (PlaceAt (κ, tt))) r (u ∷ []) (λ is.
         land ! (from ! (stop !)) (init ! 3 refl ((LL.lawful (T.the_type αᵉ) (T'.the_laws αᵉ) 𝓛).typed r _ is).0) $
-        use2 𝓛 (raw ((Reads 𝓛 mem run).pre (to_read r u))) (goes-read r u (is-next s i running r made next)) $
+        use2 𝓛 (raw ((Reads 𝓛 mem run).pre (to_read r u))) (goes-read r u (is_next s i running r made next)) $
         calls_at ! fm (Reads 𝓛 mem run) known_read (to_read r u) (and_then ! (load ! (from ! (stop !)) (look ! 2 refl)) (and_then ! (load ! (from ! (stop !)) (look ! 4 refl)) (no_more !))) (λ u'.
         use1 𝓛 (later (some (λ (e : Entry). ((‵ (flft κ q) ⊛ ‵ ftrue) ⊛ ‵ ((S.the_row).own_val e (u' ∷ []))) ⊛ raw (ensured 𝓛 read.ended (read.clauses 𝓛 mem run) (κ, tt) (r, (running, tt)) tt e)))) (id⊢ 𝓤 _) $ await ! tt $ pick ! (λ e.
         split ! $ move ! (1 ∷ []) $ use1 𝓛 (raw (fact 𝓤 (Found r.bytes.now r.number e))) (read-said r e) $ heard ! (Found r.bytes.now r.number e) (λ found. split ! $ move ! (1 ∷ []) $

@@ -31,11 +31,11 @@ use denote.Triple.Table.{entered, cited}
 use denote.Triple.Walked.{says, needs, Stays, stay_none, walk_of, Goes-none, Walks, ends_at, walked, walk_Meets}
 use denote.Exit.{yes}
 use denote.Triple.Clauses.{ensured, lasts}
-use Rattle.dump.specs.Layout.{recordCount, kindAt, operand_at, runningPlace}
+use Rattle.dump.specs.Layout.{record_count, kind_at, operand_at, running_place}
 use Rattle.dump.specs.Questions.{Whole}
 use Rattle.dump.specs.declared.layout.Entry.{Entry}
 use Rattle.dump.specs.declared.place.Place.{Place}
-use Rattle.dump.proofs.Places.{PlaceAt, placeVals, place-tells, TypedPlace, place-typed, OwnPlace, OwnParts, dumpVal, apart}
+use Rattle.dump.proofs.Places.{PlaceAt, place_vals, place_tells, TypedPlace, place_typed, OwnPlace, OwnParts, dump_val, apart}
 use Rattle.dump.proofs.place.Place.TheLaws as T'
 use Rattle.dump.specs.contracts.layout.Entry as S
 use Rattle.dump.proofs.layout.Entry.TheLaws as S'
@@ -53,11 +53,11 @@ stayed = (stay_none PlaceAt yes, (stay_none (λ _. usize) yes, tt))
 
 -- a record is next, and the running place is its own
 abbrev Asked : Place → ℕ → Type 0
-Asked d running = Whole d.bytes.now × (d.number < recordCount d.bytes.now) × (running ≡ runningPlace (recordCount d.bytes.now) d.number)
+Asked d running = Whole d.bytes.now × (d.number < record_count d.bytes.now) × (running ≡ running_place (record_count d.bytes.now) d.number)
 
 -- e has its numbers
 abbrev Found : Place → Entry → Type 0
-Found d e = (e.kind ≡ kindAt d.bytes.now d.number) × (e.operand ≡ operand_at d.bytes.now d.number)
+Found d e = (e.kind ≡ kind_at d.bytes.now d.number) × (e.operand ≡ operand_at d.bytes.now d.number)
 
 module _ {M : Type 1} {𝓤 : Ura M} (𝓛 : Logic 𝓤) (mem : Memory → SProp 𝓤) (run : Routine → Fun 𝓤) where
   -- the contract that the walk cites
@@ -78,7 +78,7 @@ module _ {M : Type 1} {𝓤 : Ura M} (𝓛 : Logic 𝓤) (mem : Memory → SProp
 
   -- the call: what is passed, what is asked, and what is known of the result
   abbrev to : (NumbersAt 𝓛 mem run).Ghost
-  to = (((κ, tt), (q, tt), tt, (d.bytes, (d.number, (running, tt))), (dumpVal d ∷ [], (vint w64 d.number ∷ [], (vint w64 running ∷ [], tt)))), tt)
+  to = (((κ, tt), (q, tt), tt, (d.bytes, (d.number, (running, tt))), (dump_val d ∷ [], (vint w64 d.number ∷ [], (vint w64 running ∷ [], tt)))), tt)
 
   asked : ent 𝓤 (⋆ 𝓛 (((‵ (flft κ q) ⊛ ‵ ftrue) ⊛ ‵ (OwnParts κ d running)) ∷ [])) ((NumbersAt 𝓛 mem run).pre to)
   asked = qed 𝓛 (((‵ (flft κ q) ⊛ ‵ ftrue) ⊛ ‵ (OwnParts κ d running)) ∷ []) ∵ says ! next $ split ! $ frame ! $ done !
@@ -114,9 +114,9 @@ module _ {M : Type 1} {𝓤 : Ura M} (𝓛 : Logic 𝓤) (mem : Memory → SProp
   open 𝓛 use {H}
 
   walks : (C : Calls 𝓤 H) (Λ : Loops 𝓤 H) → FmC 𝓤 H 𝓛.laws C → Triple 𝓤 (C #numbers-at) (NumbersAt 𝓛 mem run) → Walks 𝓛 read.ended stayed (WpFn 𝓤 H C Λ code.function) (read.clauses 𝓛 mem run)
-  walks C Λ fm known = walked 𝓛 read.ended stayed (read.clauses 𝓛 mem run) (WpFn 𝓤 H C Λ code.function) (λ κs. (placeVals κs, (uint_vals w64, tt))) (λ κs. (place-tells κs, (uint_Tells w64, tt)))
+  walks C Λ fm known = walked 𝓛 read.ended stayed (read.clauses 𝓛 mem run) (WpFn 𝓤 H C Λ code.function) (λ κs. (place_vals κs, (uint_vals w64, tt))) (λ κs. (place_tells κs, (uint_Tells w64, tt)))
       (λ κs qs bounds a g are. needs 𝓤 (Asked a.0 a.1.0) _ (λ next.
-      walk 𝓛 mem run κs.0 qs.0 a.0 a.1.0 are.1.0.1 next C Λ fm known (place-typed 𝓛 κs a.0 are.0)))
+      walk 𝓛 mem run κs.0 qs.0 a.0 a.1.0 are.1.0.1 next C Λ fm known (place_typed 𝓛 κs a.0 are.0)))
 
 meets : {M : Type 1} {𝓤 : Ura M} (𝓛 : Logic 𝓤) → (mem : Memory → SProp 𝓤) (run : Routine → Fun 𝓤) (𝓣 : Tables 𝓤 𝓛.H) → Triple 𝓤 (𝓣.C #numbers-at) (NumbersAt 𝓛 mem run)
     → Meets 𝓛 read.signature (WpFn 𝓤 𝓛.H 𝓣.C 𝓣.Λ code.function) (read.spec 𝓛 mem run)

@@ -1,7 +1,7 @@
 -- `bounds_for` meets its contract: what question 7 does not allow admits nothing, and of the rest question 8 is asked.
 use mathlib.Core.Path.{sym, ◌∙◌}
 use borrow.Author.Rules.{rules}
-use Rattle.dump.proofs.Operands.{none-fits}
+use Rattle.dump.proofs.Operands.{none_fits}
 use Rattle.dump.proofs.questions.bounds_for.Statement.{statement}
 use Rattle.dump.proofs.questions.bounds_for.Tie as tie
 
@@ -18,7 +18,7 @@ returns : tie.Need-returns
 returns c n h = rw (sym c.before.before.kind-allowed.ensures ∙ c.before.if1.true) (c.bounds_of.ensures n h)
 
 returns-2 : tie.Need-returns-2
-returns-2 c n h = rw (c.below.ensures, sym c.before.before.kind-allowed.ensures ∙ c.before.if1.false) (none-fits n h)
+returns-2 c n h = rw (c.below.ensures, sym c.before.before.kind-allowed.ensures ∙ c.before.if1.false) (none_fits n h)
 
 pub bounds-for-spec : {M : Type 1} → statement M
 bounds-for-spec =

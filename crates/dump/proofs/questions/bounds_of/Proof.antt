@@ -2,7 +2,7 @@
 use mathlib.Core.Logic.{⊎_elim}
 use native.Mathlib.Omega.{arith}
 use borrow.Author.Rules.{rules}
-use Rattle.dump.proofs.Operands.{none-fits}
+use Rattle.dump.proofs.Operands.{none_fits}
 use Rattle.dump.proofs.Ranges.{inside, beneath, beyond}
 use Rattle.dump.proofs.questions.bounds_of.Statement.{statement}
 use Rattle.dump.proofs.questions.bounds_of.Tie as tie
@@ -31,10 +31,10 @@ returns-3 c n h =
     let k = c.before.before.args.kind in
     rw c.below.ensures
     (⊎_elim
-    (λ w. rw (beneath 1 11 k (omega arith), beneath 16 22 k (omega arith)) (none-fits n h))
+    (λ w. rw (beneath 1 11 k (omega arith), beneath 16 22 k (omega arith)) (none_fits n h))
     (⊎_elim
-    (λ w. rw (beyond 1 11 k (omega arith) (omega arith), beneath 16 22 k (omega arith)) (none-fits n h))
-    (λ w. rw (beyond 1 11 k (omega arith) (omega arith), beyond 16 22 k (omega arith) (omega arith)) (none-fits n h)))
+    (λ w. rw (beyond 1 11 k (omega arith) (omega arith), beneath 16 22 k (omega arith)) (none_fits n h))
+    (λ w. rw (beyond 1 11 k (omega arith) (omega arith), beyond 16 22 k (omega arith) (omega arith)) (none_fits n h)))
     c.before.if1.branch)
 
 pub bounds-of-spec : {M : Type 1} → statement M

@@ -6,18 +6,18 @@ use Prim.Native.Nat.{ℕ, ◌-◌}
 use native.Mathlib.Omega.{arith}
 use borrow.Author.Rules.{rules}
 use borrow.Author.Tests.{not-true, not-false}
-use Rattle.dump.specs.Layout.{recordCount, kindAt}
-use Rattle.dump.specs.Questions.{kindAllowed}
+use Rattle.dump.specs.Layout.{record_count, kind_at}
+use Rattle.dump.specs.Questions.{kind_allowed}
 use Rattle.dump.proofs.Asking.{Asking, asking, passes, fails, all_pass}
 use Rattle.dump.proofs.questions.has_kinds.Statement.{statement}
 use Rattle.dump.proofs.questions.has_kinds.Tie as tie
 
 -- what is asked of record i
 abbrev asked : Bool → List ℕ → ℕ → Bool
-asked calls_only bytes i = kindAllowed calls_only (kindAt bytes i)
+asked calls_only bytes i = kind_allowed calls_only (kind_at bytes i)
 
 abbrev invariant-loop : tie.invariant-loop
-invariant-loop calls_only bytes n i₀ i = Asking (asked calls_only bytes) (recordCount bytes) i
+invariant-loop calls_only bytes n i₀ i = Asking (asked calls_only bytes) (record_count bytes) i
 
 abbrev decreases-loop : tie.decreases-loop
 decreases-loop calls_only bytes n i₀ i = n - i
@@ -27,7 +27,7 @@ answered : (c : tie.After-kind-allowed invariant-loop decreases-loop)
     → (let k = c.before.before.before in let a = k.before.before.before.args in c.kind-allowed.result ≡ asked a.list a.bytes.now k.loop.i)
 answered c =
     let a = c.before.before.before.before.before.before.args in
-    c.kind-allowed.ensures ∙ ap (kindAllowed a.list) c.before.kind_at.ensures
+    c.kind-allowed.ensures ∙ ap (kind_allowed a.list) c.before.kind_at.ensures
 
 record-count-requires : tie.Need-record-count-requires invariant-loop decreases-loop
 record-count-requires c κs = search rules
@@ -35,7 +35,7 @@ record-count-requires c κs = search rules
 loop-holds : tie.Need-loop-init invariant-loop decreases-loop
 loop-holds c =
     let a = c.before.before.args in
-    asking (asked a.list a.bytes.now) (recordCount a.bytes.now)
+    asking (asked a.list a.bytes.now) (record_count a.bytes.now)
 
 kind-at-requires : tie.Need-kind-at-requires invariant-loop decreases-loop
 kind-at-requires c κs = search rules
@@ -47,7 +47,7 @@ returns : tie.Need-returns invariant-loop decreases-loop
 returns c =
     let k = c.before.before.before.before in
     let a = k.before.before.before.args in
-    fails (asked a.list a.bytes.now) (recordCount a.bytes.now) k.loop.i k.loop.invariant (omega arith)
+    fails (asked a.list a.bytes.now) (record_count a.bytes.now) k.loop.i k.loop.invariant (omega arith)
     (sym (answered c.before) ∙ not-true c.before.kind-allowed.result c.if1.true)
 
 add-i : tie.Need-overflow-add-i invariant-loop decreases-loop
@@ -60,14 +60,14 @@ loop-again : tie.Need-loop-preserved invariant-loop decreases-loop
 loop-again c =
     let k = c.before.before.before.before in
     let a = k.before.before.before.args in
-    passes (asked a.list a.bytes.now) (recordCount a.bytes.now) k.loop.i k.loop.invariant (omega arith)
+    passes (asked a.list a.bytes.now) (record_count a.bytes.now) k.loop.i k.loop.invariant (omega arith)
     (sym (answered c.before) ∙ not-false c.before.kind-allowed.result c.if1.false)
 
 returns-2 : tie.Need-returns-2 invariant-loop decreases-loop
 returns-2 c =
     let k = c.before in
     let a = k.before.before.before.args in
-    all_pass (asked a.list a.bytes.now) (recordCount a.bytes.now) k.loop.i k.loop.invariant (omega arith)
+    all_pass (asked a.list a.bytes.now) (record_count a.bytes.now) k.loop.i k.loop.invariant (omega arith)
 
 pub has-kinds-spec : {M : Type 1} → statement M
 has-kinds-spec =

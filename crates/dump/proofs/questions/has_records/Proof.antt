@@ -8,26 +8,26 @@ use native.Mathlib.Omega.{arith}
 use borrow.Author.Rules.{rules}
 use borrow.Author.Tests.{not-true, not-false}
 use Rattle.model.specs.Searches.{all, up_to}
-use Rattle.dump.specs.Layout.{recordCount, kindAt, operand_at, runningPlace}
-use Rattle.dump.specs.Questions.{kindAllowed, operandFits, hasKinds, hasOperands}
-use Rattle.dump.specs.Operands.{recordFits}
+use Rattle.dump.specs.Layout.{record_count, kind_at, operand_at, running_place}
+use Rattle.dump.specs.Questions.{kind_allowed, operand_fits, has_kinds, has_operands}
+use Rattle.dump.specs.Operands.{record_fits}
 use Rattle.dump.proofs.Operands.{no_kind}
 use Rattle.dump.proofs.Asking.{Asking, asking, passes, fails, all_pass, both}
-use Rattle.dump.proofs.Running.{running-place, running-next}
+use Rattle.dump.proofs.Running.{running_place_lem, running_next}
 use Rattle.dump.proofs.questions.has_records.Statement.{statement}
 use Rattle.dump.proofs.questions.has_records.Tie as tie
 
 -- what is asked of record i
 abbrev asked : (threads sections : ℕ) → Bool → List ℕ → ℕ → Bool
-asked threads sections calls_only bytes i = recordFits threads sections calls_only (kindAt bytes i) (operand_at bytes i)
+asked threads sections calls_only bytes i = record_fits threads sections calls_only (kind_at bytes i) (operand_at bytes i)
 
 -- of all of them, that is both questions
-both-asked : (threads sections : ℕ) (calls_only : Bool) (bytes : List ℕ) → all (asked threads sections calls_only bytes) (up_to (recordCount bytes)) ≡ hasKinds calls_only bytes && hasOperands threads sections bytes
+both-asked : (threads sections : ℕ) (calls_only : Bool) (bytes : List ℕ) → all (asked threads sections calls_only bytes) (up_to (record_count bytes)) ≡ has_kinds calls_only bytes && has_operands threads sections bytes
 both-asked threads sections calls_only bytes =
-    both (λ i. kindAllowed calls_only (kindAt bytes i)) (λ i. operandFits threads sections (kindAt bytes i) (operand_at bytes i)) (up_to (recordCount bytes))
+    both (λ i. kind_allowed calls_only (kind_at bytes i)) (λ i. operand_fits threads sections (kind_at bytes i) (operand_at bytes i)) (up_to (record_count bytes))
 
 abbrev invariant-loop : tie.invariant-loop
-invariant-loop threads sections list bytes n table i₀ running₀ i running = Asking (asked threads sections list bytes) (recordCount bytes) i × (running ≡ runningPlace (recordCount bytes) i)
+invariant-loop threads sections list bytes n table i₀ running₀ i running = Asking (asked threads sections list bytes) (record_count bytes) i × (running ≡ running_place (record_count bytes) i)
 
 abbrev decreases-loop : tie.decreases-loop
 decreases-loop threads sections list bytes n table i₀ running₀ i running = n - i
@@ -46,9 +46,9 @@ asked_of l = let a = (start l).args in asked a.threads a.sections a.list a.bytes
 
 -- how many records there are
 abbrev count : tie.At-loop invariant-loop decreases-loop → ℕ
-count l = recordCount (start l).args.bytes.now
+count l = record_count (start l).args.bytes.now
 
-all_asked : (l : tie.At-loop invariant-loop decreases-loop) → (let a = (start l).args in all (asked_of l) (up_to (count l)) ≡ hasKinds a.list a.bytes.now && hasOperands a.threads a.sections a.bytes.now)
+all_asked : (l : tie.At-loop invariant-loop decreases-loop) → (let a = (start l).args in all (asked_of l) (up_to (count l)) ≡ has_kinds a.list a.bytes.now && has_operands a.threads a.sections a.bytes.now)
 all_asked l = let a = (start l).args in both-asked a.threads a.sections a.list a.bytes.now
 
 -- the answer of a turn is that of the definition
@@ -59,7 +59,7 @@ answered c =
     let a = (start l).args in
     let r = e.entry_at.result in
     c.admits.ensures ∙ l.before.before.bounds-table.ensures r.kind (omega arith) r.operand (omega arith)
-    ∙ ap₂ (recordFits a.threads a.sections a.list) e.entry_at.ensures.0 e.entry_at.ensures.1
+    ∙ ap₂ (record_fits a.threads a.sections a.list) e.entry_at.ensures.0 e.entry_at.ensures.1
 
 record-count-requires : tie.Need-record-count-requires invariant-loop decreases-loop
 record-count-requires c κs = search rules
@@ -74,7 +74,7 @@ loop-holds : tie.Need-loop-init invariant-loop decreases-loop
 loop-holds c =
     let n = c.before.before in
     let a = n.before.before.args in
-    (asking (asked a.threads a.sections a.list a.bytes.now) (recordCount a.bytes.now), c.first-operand.ensures ∙ ap (λ m. runningPlace m 0) n.record-count.ensures)
+    (asking (asked a.threads a.sections a.list a.bytes.now) (record_count a.bytes.now), c.first-operand.ensures ∙ ap (λ m. running_place m 0) n.record-count.ensures)
 
 entry-at-requires : tie.Need-entry-at-requires invariant-loop decreases-loop
 entry-at-requires c κs =
@@ -95,7 +95,7 @@ returns c =
     let a = (start l).args in
     let r = e.entry_at.result in
     fails (asked_of l) (count l) l.loop.i l.loop.inv.0 (within e)
-    (sym (ap₂ (recordFits a.threads a.sections a.list) e.entry_at.ensures.0 e.entry_at.ensures.1) ∙ no_kind a.threads a.sections a.list r.kind r.operand (omega arith))
+    (sym (ap₂ (record_fits a.threads a.sections a.list) e.entry_at.ensures.0 e.entry_at.ensures.1) ∙ no_kind a.threads a.sections a.list r.kind r.operand (omega arith))
     ∙ all_asked l
 
 mul-admits : tie.Need-overflow-mul-admits invariant-loop decreases-loop
@@ -121,7 +121,7 @@ add-running : tie.Need-overflow-add-running invariant-loop decreases-loop
 add-running c =
     let e = c.before.before.before.before.before in
     let l = here e in
-    record { fits = omega (arith, l.loop.inv.1, running-place (count l) l.loop.i, within e, (start l).pre.count) }
+    record { fits = omega (arith, l.loop.inv.1, running_place_lem (count l) l.loop.i, within e, (start l).pre.count) }
 
 loop-less : tie.Need-loop-smaller invariant-loop decreases-loop
 loop-less c = search rules
@@ -131,7 +131,7 @@ loop-again c =
     let e = c.before.before.before.before.before in
     let l = here e in (
       passes (asked_of l) (count l) l.loop.i l.loop.inv.0 (within e) (sym (answered c.before) ∙ not-false c.before.admits.result c.if2.false),
-      running-next (count l) l.loop.i l.loop.inv.1,
+      running_next (count l) l.loop.i l.loop.inv.1,
     )
 
 returns-3 : tie.Need-returns-3 invariant-loop decreases-loop

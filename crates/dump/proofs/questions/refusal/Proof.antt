@@ -3,33 +3,33 @@ use mathlib.Core.Path.{◌≡◌, ap, sym, ◌∙◌}
 use mathlib.Core.Bool.{Bool, true, false, ◌&&◌}
 use borrow.Author.Rules.{rules}
 use borrow.Author.Tests.{not-true, not-false}
-use Rattle.model.proofs.Tests.{is_true, from-true, and_left, and_right}
-use Rattle.dump.specs.Questions.{hasCount, hasLength, hasKinds, hasOperands, questions, refusal, Whole}
-use Rattle.dump.proofs.Answers.{has-two, whole}
+use Rattle.model.proofs.Tests.{is_true, from_true, and_left, and_right}
+use Rattle.dump.specs.Questions.{has_count, has_length, has_kinds, has_operands, questions, refusal, Whole}
+use Rattle.dump.proofs.Answers.{has_two, whole}
 use Rattle.dump.proofs.questions.refusal.Statement.{statement}
 use Rattle.dump.proofs.questions.refusal.Tie as tie
 
-count : (c : tie.Else1) → hasCount c.before.before.before.args.bytes.now ≡ true
+count : (c : tie.Else1) → has_count c.before.before.before.args.bytes.now ≡ true
 count c = sym c.before.has-count.ensures ∙ not-false c.before.has-count.result c.if1.false
 
-size : (c : tie.Else2) → hasLength c.before.before.before.before.before.args.bytes.now ≡ true
+size : (c : tie.Else2) → has_length c.before.before.before.before.before.args.bytes.now ≡ true
 size c = sym c.before.has-length.ensures ∙ not-false c.before.has-length.result c.if2.false
 
 sized : (c : tie.Else2) → Whole c.before.before.before.before.before.args.bytes.now
-sized c = whole _ (from-true _ (count c.before.before)) (from-true _ (size c))
+sized c = whole _ (from_true _ (count c.before.before)) (from_true _ (size c))
 
 -- questions 7 and 8, of what came
 
 abbrev K : tie.Else2 → Bool
-K c = let a = c.before.before.before.before.before.args in hasKinds a.list a.bytes.now
+K c = let a = c.before.before.before.before.before.args in has_kinds a.list a.bytes.now
 
 abbrev O : tie.Else2 → Bool
-O c = let a = c.before.before.before.before.before.args in hasOperands a.threads a.sections a.bytes.now
+O c = let a = c.before.before.before.before.before.args in has_operands a.threads a.sections a.bytes.now
 
 both_yes : (c : tie.Then3) → (let f = c.before.before in (K f ≡ true) × (O f ≡ true))
 both_yes c =
     let f = c.before.before in
-    let t = from-true (K f && O f) (sym c.before.has-records.ensures ∙ c.if3.true) in
+    let t = from_true (K f && O f) (sym c.before.has-records.ensures ∙ c.if3.true) in
     (is_true (K f) (and_left (K f) (O f) t), is_true (O f) (and_right (K f) (O f) t))
 
 kinds : (c : tie.Else4) → K c.before.before.before.before ≡ true
@@ -50,7 +50,7 @@ unfolding refusal questions
 returns c = rw (← c.before.has-count.ensures, not-true c.before.has-count.result c.if1.true)
 
 has-length-requires : tie.Need-has-length-requires
-has-length-requires c κs = has-two c.before.before.before.args.bytes.now (from-true _ (count c))
+has-length-requires c κs = has_two c.before.before.before.args.bytes.now (from_true _ (count c))
 
 returns-2 : tie.Need-returns-2
 unfolding refusal questions

@@ -3,8 +3,8 @@ use mathlib.Core.Bool.{◌&&◌}
 use borrow.Author.Rules.{rules}
 use borrow.Author.Tests.{ne_eqb}
 use lib.Dec.{eqb}
-use Rattle.model.specs.Records.{timerCount, nobody}
-use Rattle.dump.proofs.Operands.{from_zero, below-count, any_word}
+use Rattle.model.specs.Records.{timer_count, nobody}
+use Rattle.dump.proofs.Operands.{from_zero, below_count, any_word}
 use Rattle.dump.proofs.questions.report_bounds.Statement.{statement}
 use Rattle.dump.proofs.questions.report_bounds.Tie as tie
 
@@ -12,7 +12,7 @@ below-requires : tie.Need-below-requires
 below-requires c κs = search rules
 
 returns : tie.Need-returns
-returns c n h = rw (c.below.ensures, c.before.if1.true) (below-count timerCount n h)
+returns c n h = rw (c.below.ensures, c.before.if1.true) (below_count timer_count n h)
 
 below-requires-2 : tie.Need-below-requires-2
 below-requires-2 c κs = search rules

@@ -1,4 +1,4 @@
--- `record_of` meets its contract: by its kind, each entry is the machine's record that stands for the model's.
+-- `record_of_lem` meets its contract: by its kind, each entry is the machine's record that stands for the model's.
 use mathlib.Core.Path.{◌≡◌, refl, ap}
 use mathlib.Core.Logic.{◌⊎◌, inl, inr, ◌≢◌}
 use mathlib.Core.Bool.{false, not}
@@ -9,15 +9,15 @@ use lib.Dec.{T, ltb→lt, lt→ltb}
 use Rattle.model.specs.Records as model
 use Rattle.model.proofs.Tests.{split, is_false}
 use Rattle.machine.specs.declared.record.Record.TheVariants.{Create, Take, Give, Arm, Cancel}
-use Rattle.dump.specs.Questions.{is_call, operandFits}
+use Rattle.dump.specs.Questions.{is_call, operand_fits}
 use Rattle.dump.specs.Reading.{Reads}
-use Rattle.dump.proofs.Codec.{fits-kind, each-call}
+use Rattle.dump.proofs.Codec.{fits_kind, each_call}
 use Rattle.dump.proofs.Readings.{low, reports}
 use Rattle.dump.proofs.records.record_of.Statement.{statement}
 use Rattle.dump.proofs.records.record_of.Tie as tie
 
 -- each kind of call that names a thread, a section or a timer, with an operand that fits
-module _ (k n : ℕ) (t : T (operandFits 16 16 k n)) where
+module _ (k n : ℕ) (t : T (operand_fits 16 16 k n)) where
   creates : k ≡ 1 → Reads (Create (n % 256)) k n
   creates e = rw e (record { same = ap (λ i. model.call (model.Create i)) (low n (rw e at t)); kind' = tt })
 
@@ -28,10 +28,10 @@ module _ (k n : ℕ) (t : T (operandFits 16 16 k n)) where
   gives e = rw e (record { same = ap (λ i. model.call (model.Give i)) (low n (rw e at t)); kind' = tt })
 
   arms : k ≡ 8 → Reads (Arm (n % 256)) k n
-  arms e = rw e (record { same = ap (λ i. model.call (model.Timing (model.Arm i))) (low n (lt→ltb n 16 (omega (arith, ltb→lt n model.timerCount (rw e at t))))); kind' = tt })
+  arms e = rw e (record { same = ap (λ i. model.call (model.Timing (model.Arm i))) (low n (lt→ltb n 16 (omega (arith, ltb→lt n model.timer_count (rw e at t))))); kind' = tt })
 
   cancels : k ≡ 11 → Reads (Cancel (n % 256)) k n
-  cancels e = rw e (record { same = ap (λ i. model.call (model.Timing (model.Cancel i))) (low n (lt→ltb n 16 (omega (arith, ltb→lt n model.timerCount (rw e at t))))); kind' = tt })
+  cancels e = rw e (record { same = ap (λ i. model.call (model.Timing (model.Cancel i))) (low n (lt→ltb n 16 (omega (arith, ltb→lt n model.timer_count (rw e at t))))); kind' = tt })
 
 cast-who : tie.Need-overflow-cast-who
 cast-who c = search rules
@@ -77,7 +77,7 @@ no_call : (k : ℕ) → k ≢ 1 → k ≢ 2 → k ≢ 3 → k ≢ 4 → k ≢ 5 
 no_call k a b c d e f g h i j l = go (split (is_call k))
   where
     go : T (is_call k) ⊎ T (not (is_call k)) → is_call k ≡ false
-    go (inl t) = absurd (each-call (λ n. k ≡ n → ⊥) a b c d e f g h i j l k t refl)
+    go (inl t) = absurd (each_call (λ n. k ≡ n → ⊥) a b c d e f g h i j l k t refl)
     go (inr t) = is_false (is_call k) t
 
 returns-12 : tie.Need-returns-12
@@ -85,7 +85,7 @@ returns-12 c =
     let a = c.before.args.entry in
     let d = c.match.rest in
     let e = d.0.0.0.0 in
-    reports a.operand a.kind (fits-kind 16 16 a.kind a.operand c.before.requires)
+    reports a.operand a.kind (fits_kind 16 16 a.kind a.operand c.before.requires)
     (no_call a.kind e.0.0.0.0.0.0.1 e.0.0.0.0.0.1 e.0.0.0.0.1 e.0.0.0.1 e.0.0.1 e.0.1 e.1 d.0.0.0.1 d.0.0.1 d.0.1 d.1)
 
 pub record-of-spec : {M : Type 1} → statement M

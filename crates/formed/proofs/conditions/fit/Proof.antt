@@ -1,7 +1,7 @@
 -- `fit` meets its contract: where nobody waits the tick numbers decide, and else every thread is asked.
 use mathlib.Core.Path.{sym, ◌∙◌}
 use borrow.Author.Rules.{rules}
-use Rattle.formed.proofs.Calm.{calm-range}
+use Rattle.formed.proofs.Calm.{calm_range}
 use Rattle.formed.proofs.conditions.fit.Statement.{statement}
 use Rattle.formed.proofs.conditions.fit.Tie as tie
 
@@ -12,7 +12,7 @@ returns : tie.Need-returns
 returns c =
     let s = c.before.before.before in
     let a = s.args in
-    sym (calm-range a.slots a.wakes a.threads a.sections s.requires.0 (s.requires.2 c.before.before.if1.true) (sym c.before.in-time.ensures ∙ c.if2.true))
+    sym (calm_range a.slots a.wakes a.threads a.sections s.requires.0 (s.requires.2 c.before.before.if1.true) (sym c.before.in-time.ensures ∙ c.if2.true))
 
 in-range-requires : tie.Need-in-range-requires
 in-range-requires c κs = search rules

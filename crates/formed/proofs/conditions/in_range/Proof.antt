@@ -4,14 +4,14 @@ use Prim.Native.Nat.{◌-◌, ◌≤◌}
 use native.Mathlib.Omega.{arith}
 use borrow.Author.Rules.{rules}
 use borrow.Author.Tests.{not-true, not-false}
-use Rattle.model.specs.Formed.{conditionInRange}
-use Rattle.model.proofs.Loops.{AllLeft, all-begin, passed, failed, all-passed}
-use Rattle.machine.specs.View.{conditionIn}
+use Rattle.model.specs.Formed.{condition_in_range}
+use Rattle.model.proofs.Loops.{AllLeft, all_begin, passed, failed, all_passed}
+use Rattle.machine.specs.View.{condition_in}
 use Rattle.formed.proofs.conditions.in_range.Statement.{statement}
 use Rattle.formed.proofs.conditions.in_range.Tie as tie
 
 abbrev invariant-loop : tie.invariant-loop
-invariant-loop slots threads sections wakes t₀ t = (t ≤ threads) × AllLeft (conditionInRange sections) (conditionIn slots wakes) threads t
+invariant-loop slots threads sections wakes t₀ t = (t ≤ threads) × AllLeft (condition_in_range sections) (condition_in slots wakes) threads t
 
 abbrev decreases-loop : tie.decreases-loop
 decreases-loop slots threads sections wakes t₀ t = threads - t
@@ -19,7 +19,7 @@ decreases-loop slots threads sections wakes t₀ t = threads - t
 loop-holds : tie.Need-loop-init invariant-loop decreases-loop
 loop-holds c =
     let a = c.args in
-    (omega arith, all-begin (conditionInRange a.sections) (conditionIn a.slots a.t2) a.threads)
+    (omega arith, all_begin (condition_in_range a.sections) (condition_in a.slots a.t2) a.threads)
 
 cast-nibble-at : tie.Need-overflow-cast-nibble-at invariant-loop decreases-loop
 cast-nibble-at c = search rules
@@ -46,14 +46,14 @@ slot-in-range-requires c κs = search rules
 turned : (c : tie.After-slot-in-range invariant-loop decreases-loop)
     → let k = c.before.before.before.before.before in
     let a = k.before.args in
-    c.slot-in-range.result ≡ conditionInRange a.sections (conditionIn a.slots a.t2 k.loop.t)
+    c.slot-in-range.result ≡ condition_in_range a.sections (condition_in a.slots a.t2 k.loop.t)
 turned c = c.slot-in-range.ensures ∙ (rw (c.before.before.before.nibble-at.ensures, c.before.before.nibble-at2.ensures))
 
 returns : tie.Need-returns invariant-loop decreases-loop
 returns c =
     let k = c.before.before.before.before.before.before in
     let a = k.before.args in
-    failed (conditionInRange a.sections) (conditionIn a.slots a.t2) a.threads k.loop.t (omega arith) k.loop.invariant.1
+    failed (condition_in_range a.sections) (condition_in a.slots a.t2) a.threads k.loop.t (omega arith) k.loop.invariant.1
     (sym (turned c.before) ∙ not-true c.before.slot-in-range.result c.if1.true)
 
 add-t : tie.Need-overflow-add-t invariant-loop decreases-loop
@@ -67,7 +67,7 @@ loop-again c =
     let k = c.before.before.before.before.before.before in
     let a = k.before.args in (
       omega arith,
-      passed (conditionInRange a.sections) (conditionIn a.slots a.t2) a.threads k.loop.t (omega arith) k.loop.invariant.1
+      passed (condition_in_range a.sections) (condition_in a.slots a.t2) a.threads k.loop.t (omega arith) k.loop.invariant.1
           (sym (turned c.before) ∙ not-false c.before.slot-in-range.result c.if1.false),
     )
 
@@ -75,7 +75,7 @@ returns-2 : tie.Need-returns-2 invariant-loop decreases-loop
 returns-2 c =
     let k = c.before in
     let a = k.before.args in
-    all-passed (conditionInRange a.sections) (conditionIn a.slots a.t2) a.threads k.loop.t (omega arith) k.loop.invariant.1
+    all_passed (condition_in_range a.sections) (condition_in a.slots a.t2) a.threads k.loop.t (omega arith) k.loop.invariant.1
 
 pub in-range-spec : {M : Type 1} → statement M
 in-range-spec =

@@ -6,14 +6,14 @@ use native.Mathlib.Omega.{arith}
 use borrow.Author.Rules.{rules}
 use borrow.Author.Tests.{le-leb, lt-leb}
 use lib.Dec.{leb}
-use Rattle.model.specs.Formed.{lastWake}
-use Rattle.model.proofs.Loops.{AllPass, all-begin, pass_kept, pass-lost, all_asked}
+use Rattle.model.specs.Formed.{last_wake}
+use Rattle.model.proofs.Loops.{AllPass, all_begin, pass_kept, pass_lost, all_asked}
 use Rattle.clock.specs.View.{number_at}
 use Rattle.formed.proofs.conditions.in_time.Statement.{statement}
 use Rattle.formed.proofs.conditions.in_time.Tie as tie
 
 abbrev early : ℕ → Bool
-early n = leb n lastWake
+early n = leb n last_wake
 
 abbrev invariant-loop : tie.invariant-loop
 invariant-loop wakes pass₀ t₀ pass t = (t ≤ 16) × AllPass early (number_at wakes) 16 t pass
@@ -22,7 +22,7 @@ abbrev decreases-loop : tie.decreases-loop
 decreases-loop wakes pass₀ t₀ pass t = 16 - t
 
 loop-holds : tie.Need-loop-init invariant-loop decreases-loop
-loop-holds c = (omega arith, all-begin early (number_at c.args.t1) 16)
+loop-holds c = (omega arith, all_begin early (number_at c.args.t1) 16)
 
 mul-wake : tie.Need-overflow-mul-wake invariant-loop decreases-loop
 mul-wake c = search rules
@@ -40,12 +40,12 @@ loop-again : tie.Need-loop-preserved invariant-loop decreases-loop
 loop-again c =
     let k = c.before.before.before.before.before in
     let wake : ℕ → ℕ = number_at k.before.args.t1 in
-    let lost = pass-lost early wake 16 k.loop.t k.loop.pass (omega arith) k.loop.invariant.1 c.if1.pass in
+    let lost = pass_lost early wake 16 k.loop.t k.loop.pass (omega arith) k.loop.invariant.1 c.if1.pass in
     let kept = pass_kept early wake 16 k.loop.t k.loop.pass (omega arith) k.loop.invariant.1 c.if1.pass in (
       omega arith,
       ⊎_elim
-          (λ w. lost w.1 (lt-leb (wake k.loop.t) lastWake w.0.taken))
-          (λ w. kept w.1 (le-leb (wake k.loop.t) lastWake w.0.left))
+          (λ w. lost w.1 (lt-leb (wake k.loop.t) last_wake w.0.taken))
+          (λ w. kept w.1 (le-leb (wake k.loop.t) last_wake w.0.left))
           c.if1.branch,
     )
 

@@ -1,5 +1,5 @@
 -- `slot_in_range` meets its contract: a sleeper's tick number, a waiting thread's section, and otherwise the state alone, is in range.
-use Rattle.formed.proofs.Ranges.{range-asleep, range-waiting, range_other}
+use Rattle.formed.proofs.Ranges.{range_asleep, range_waiting, range_other}
 use Rattle.formed.proofs.conditions.slot_in_range.Statement.{statement}
 use Rattle.formed.proofs.conditions.slot_in_range.Tie as tie
 
@@ -7,12 +7,12 @@ returns : tie.Need-returns
 returns c =
     let t = c.before.before in
     let a = t.before.args in
-    range-asleep a.state a.want a.wake.0 a.sections t.if1.true
+    range_asleep a.state a.want a.wake.0 a.sections t.if1.true
 
 returns-2 : tie.Need-returns-2
 returns-2 c =
     let a = c.before.before.args in
-    range-waiting a.state a.want a.wake.0 a.sections c.if2.true
+    range_waiting a.state a.want a.wake.0 a.sections c.if2.true
 
 returns-3 : tie.Need-returns-3
 returns-3 c =

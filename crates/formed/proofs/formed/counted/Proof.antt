@@ -5,7 +5,7 @@ use mathlib.Core.Bool.{Bool, ◌&&◌}
 use borrow.Author.Tests.{le-leb, lt-leb}
 use lib.Dec.{leb}
 use Rattle.machine.specs.declared.Machine.{Machine}
-use Rattle.formed.proofs.Outside.{second-asked, first-fails}
+use Rattle.formed.proofs.Outside.{second_asked, first_fails}
 use Rattle.formed.proofs.formed.counted.Statement.{statement}
 use Rattle.formed.proofs.formed.counted.Tie as tie
 
@@ -20,7 +20,7 @@ first_two c =
     let m = c.before.before.args.m in
     let q : Bool = leb m.queue.count 16 in
     let w : Bool = leb m.waits.count 16 in
-    ⊎_elim (λ i. second-asked q w (le-leb _ 16 i.0.taken) i.2) (λ i. first-fails q w (lt-leb _ 16 i.0.left) i.1) c.if1.branch
+    ⊎_elim (λ i. second_asked q w (le-leb _ 16 i.0.taken) i.2) (λ i. first_fails q w (lt-leb _ 16 i.0.left) i.1) c.if1.branch
 
 first_three : (c : tie.Joined2) → c.if2.if3 ≡ three c.before.before.before.args.m
 first_three c =
@@ -28,7 +28,7 @@ first_three c =
     let m = k.before.before.args.m in
     let d : Bool = leb m.delays.count 16 in
     let e = first_two k in
-    ⊎_elim (λ i. second-asked (two m) d (sym e ∙ i.0.taken) i.2) (λ i. first-fails (two m) d (sym e ∙ i.0.left) (i.1 ∙ e)) c.if2.branch
+    ⊎_elim (λ i. second_asked (two m) d (sym e ∙ i.0.taken) i.2) (λ i. first_fails (two m) d (sym e ∙ i.0.left) (i.1 ∙ e)) c.if2.branch
 
 returns : tie.Need-returns
 returns c =

@@ -5,14 +5,14 @@ use lib.Dec.{eqb}
 use Rattle.model.specs.Priorities.{chosen}
 use Rattle.model.proofs.Laws.{chosen_is}
 use Rattle.machine.specs.View.{plan_of, idle}
-use Rattle.machine.specs.Contracts.{Chooses}
-use Rattle.machine.proofs.Laws.{asks-chosen}
-use Rattle.formed.proofs.Outside.{is-reported}
+use Rattle.machine.specs.Clauses.{Chooses}
+use Rattle.machine.proofs.Laws.{asks_chosen}
+use Rattle.formed.proofs.Outside.{is_reported}
 use Rattle.formed.proofs.formed.shown.Statement.{statement}
 use Rattle.formed.proofs.formed.shown.Tie as tie
 
 chooses : (s : tie.Start) → Chooses s.args.m
-chooses s = asks-chosen s.args.m s.requires.0 s.requires.1
+chooses s = asks_chosen s.args.m s.requires.0 s.requires.1
 
 chosen-requires : tie.Need-chosen-requires
 chosen-requires c κs = chooses c
@@ -23,7 +23,7 @@ returns c =
     let m = s.args.m in
     let l = (chooses s).listed in
     ap (λ n. eqb n m.reported) c.before.chosen.ensures
-    ∙ is-reported (chosen (plan_of m) (idle m)) m.reported (λ t e. omega (arith, l.known t (chosen_is (plan_of m) (idle m) t e).0, l.threads'))
+    ∙ is_reported (chosen (plan_of m) (idle m)) m.reported (λ t e. omega (arith, l.known t (chosen_is (plan_of m) (idle m) t e).0, l.threads'))
 
 pub shown-spec : {M : Type 1} → statement M
 shown-spec = tie.close (tie.spec chosen-requires returns)

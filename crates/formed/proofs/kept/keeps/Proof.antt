@@ -3,29 +3,29 @@ use mathlib.Core.Path.{◌≡◌, ap, sym, ◌∙◌}
 use mathlib.Core.Bool.{◌&&◌}
 use borrow.Author.Tests.{eq-eqb, ne_eqb}
 use lib.Dec.{eqb}
-use Rattle.keeping.specs.Top.{walkBy, walk}
-use Rattle.plan.proofs.Laws.{valid-fits}
+use Rattle.keeping.specs.Top.{walk_by, walk}
+use Rattle.plan.proofs.Laws.{valid_fits}
 use Rattle.lists.specs.Lists.{held, top_of}
 use Rattle.machine.specs.View.{plan_of}
-use Rattle.machine.proofs.Laws.{machine-facts, counts-within, ceilings-are}
+use Rattle.machine.proofs.Laws.{machine_facts, counts_within, ceilings_are}
 use Rattle.formed.proofs.Keeping.{compared}
 use Rattle.formed.proofs.kept.keeps.Statement.{statement}
 use Rattle.formed.proofs.kept.keeps.Tie as tie
 
 ceilings-requires : tie.Need-ceilings-requires
-ceilings-requires c κs = let s = c.before.before.before in valid-fits s.args.m.plan (machine-facts s.args.m s.requires).valid
+ceilings-requires c κs = let s = c.before.before.before in valid_fits s.args.m.plan (machine_facts s.args.m s.requires).valid
 
 abbrev start : tie.After-all → tie.Start
 start c = c.before.before.before.before.before
 
 walk-requires : tie.Need-walk-requires
-walk-requires c κs = let s = start c in (counts-within s.args.m s.pre).holds'
+walk-requires c κs = let s = start c in (counts_within s.args.m s.pre).holds'
 
 walked : (c : tie.After-walk) → (let m = (start c.before).args.m in top_of c.walk.result ≡ walk (plan_of m) (held m.holds))
 walked c =
     let s = start c.before in
     let m = s.args.m in
-    c.walk.ensures ∙ ap (λ g. walkBy g (held m.holds)) (ceilings-are m (machine-facts m s.pre).valid c.before.before.ceilings.ensures)
+    c.walk.ensures ∙ ap (λ g. walk_by g (held m.holds)) (ceilings_are m (machine_facts m s.pre).valid c.before.before.ceilings.ensures)
 
 returns : tie.Need-returns
 returns c =

@@ -11,25 +11,25 @@ use Rattle.model.specs.Records.{report, allowed}
 use Rattle.plan.specs.declared.Plan.{Plan}
 use Rattle.plan.specs.View.{view}
 use Rattle.due.specs.declared.reports.Report.{Report}
-use Rattle.due.specs.Lists.{reportOf, noReport, owed}
-use Rattle.due.proofs.Laws.{none-due, next-due}
-use Rattle.formed.proofs.Outside.{was-no, was-yes}
+use Rattle.due.specs.Lists.{report_of, no_report, owed}
+use Rattle.due.proofs.Laws.{none_due, next_due}
+use Rattle.formed.proofs.Outside.{was_no, was_yes}
 use Rattle.formed.proofs.reports.all_reports.Statement.{statement}
 use Rattle.formed.proofs.reports.all_reports.Tie as tie
 
 module _ (p : Plan) (items : List Report) (n : ℕ) where
   abbrev passes : ℕ → Bool
-  passes i = allowed (view p) (report (reportOf (get_or items i noReport)))
+  passes i = allowed (view p) (report (report_of (get_or items i no_report)))
 
   -- whether all from i on are
   abbrev from : ℕ → Bool
   from i = all (λ d. allowed (view p) (report d)) (drop i (owed (record { items = items; count = n })))
 
   left : (given i : ℕ) → i < n → from i ≡ from given → {b : Bool} → passes i ≡ b → b && from (i + 1) ≡ from given
-  left given i h q e = ap (λ b. b && from (i + 1)) (sym e) ∙ sym (ap (all (λ d. allowed (view p) (report d))) (next-due (λ k. get_or items k noReport) n i h)) ∙ q
+  left given i h q e = ap (λ b. b && from (i + 1)) (sym e) ∙ sym (ap (all (λ d. allowed (view p) (report d))) (next_due (λ k. get_or items k no_report) n i h)) ∙ q
 
   done : (i : ℕ) → n ≤ i → from i ≡ true
-  done i h = ap (all (λ d. allowed (view p) (report d))) (none-due (λ k. get_or items k noReport) n i h)
+  done i h = ap (all (λ d. allowed (view p) (report d))) (none_due (λ k. get_or items k no_report) n i h)
 
 abbrev invariant-loop : tie.invariant-loop
 invariant-loop given plan items n i₀ i = from plan items n i ≡ from plan items n given
@@ -54,7 +54,7 @@ returns c =
     let l = c.before.before.before in
     let k = l.before in
     let a = k.before.before.args in
-    left a.plan a.reports.items a.reports.count a.given k.loop.i l.loop-test.true k.loop.invariant {b = false} (sym (was-no c.before.is-report.ensures c.if1.true))
+    left a.plan a.reports.items a.reports.count a.given k.loop.i l.loop-test.true k.loop.invariant {b = false} (sym (was_no c.before.is_report_lem.ensures c.if1.true))
 
 add-i : tie.Need-overflow-add-i invariant-loop decreases-loop
 add-i c = search rules
@@ -67,7 +67,7 @@ loop-again c =
     let l = c.before.before.before in
     let k = l.before in
     let a = k.before.before.args in
-    left a.plan a.reports.items a.reports.count a.given k.loop.i l.loop-test.true k.loop.invariant {b = true} (was-yes c.before.is-report.ensures c.if1.false)
+    left a.plan a.reports.items a.reports.count a.given k.loop.i l.loop-test.true k.loop.invariant {b = true} (was_yes c.before.is_report_lem.ensures c.if1.false)
 
 returns-2 : tie.Need-returns-2 invariant-loop decreases-loop
 returns-2 c =

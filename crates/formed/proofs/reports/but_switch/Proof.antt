@@ -10,33 +10,33 @@ use borrow.Author.Tests.{eq-eqb, ne_eqb}
 use lib.Dec.{eqb}
 use lib.ListN.{length, drop, get_or}
 use Rattle.model.specs.Records as records
-use Rattle.model.specs.State.{withoutSwitch}
+use Rattle.model.specs.State.{without_switch}
 use Rattle.due.specs.declared.reports.Report.{Report}
-use Rattle.due.specs.Lists.{reportOf, noReport, owed}
-use Rattle.due.proofs.Laws.{switch-is, none-due, next-due}
+use Rattle.due.specs.Lists.{report_of, no_report, owed}
+use Rattle.due.proofs.Laws.{switch_is, none_due, next_due}
 use Rattle.formed.proofs.reports.but_switch.Statement.{statement}
 use Rattle.formed.proofs.reports.but_switch.Tie as tie
 
 module _ (items : List Report) (n : ℕ) where
   abbrev entry : ℕ → Report
-  entry i = get_or items i noReport
+  entry i = get_or items i no_report
 
   -- how many from i on are no Switch
   abbrev from : ℕ → ℕ
-  from i = length (withoutSwitch (drop i (owed (record { items = items; count = n }))))
+  from i = length (without_switch (drop i (owed (record { items = items; count = n }))))
 
   turn : (i : ℕ) → i < n → {b : Bool} → eqb (entry i).kind 17 ≡ b → from i ≡ cond b (from (i + 1)) (from (i + 1) + 1)
-  turn i h {b} e = ap (λ l. length (withoutSwitch l)) (next-due entry n i h) ∙ go (reportOf (entry i)) b (switch-is (entry i) ∙ e)
+  turn i h {b} e = ap (λ l. length (without_switch l)) (next_due entry n i h) ∙ go (report_of (entry i)) b (switch_is (entry i) ∙ e)
     where
       rest : List records.Report
       rest = drop (i + 1) (owed (record { items = items; count = n }))
 
-      go : (d : records.Report) (b : Bool) → records.isSwitch d ≡ b → length (withoutSwitch (d ∷ rest)) ≡ cond b (length (withoutSwitch rest)) (length (withoutSwitch rest) + 1)
+      go : (d : records.Report) (b : Bool) → records.is_switch d ≡ b → length (without_switch (d ∷ rest)) ≡ cond b (length (without_switch rest)) (length (without_switch rest) + 1)
       go d true q = rw q
       go d false q = rw q (omega arith)
 
   done : (i : ℕ) → n ≤ i → from i ≡ 0
-  done i h = ap (λ l. length (withoutSwitch l)) (none-due entry n i h)
+  done i h = ap (λ l. length (without_switch l)) (none_due entry n i h)
 
 abbrev invariant-loop : tie.invariant-loop
 invariant-loop given items n others₀ i₀ others i = (others + given ≤ i) × (others + from items n i ≡ from items n given)

@@ -8,25 +8,25 @@ use borrow.Author.Tests.{eqb-true, eqb-false, le-leb, lt-leb}
 use lib.Dec.{leb, ltb}
 use Rattle.model.specs.Records.{nobody, report, allowed}
 use Rattle.plan.specs.View.{view}
-use Rattle.due.specs.Lists.{reportOf}
-use Rattle.formed.proofs.Outside.{second-asked, first-fails}
-use Rattle.formed.proofs.Reported.{to-nobody, of-timer, of-count, to-thread}
+use Rattle.due.specs.Lists.{report_of}
+use Rattle.formed.proofs.Outside.{second_asked, first_fails}
+use Rattle.formed.proofs.Reported.{to_nobody, of_timer, of_count, to_thread}
 use Rattle.formed.proofs.reports.is_report.Statement.{statement}
 use Rattle.formed.proofs.reports.is_report.Tie as tie
 
 returns : tie.Need-returns
 returns c =
     let a = c.before.before.args in
-    to-nobody a.plan a.entry c.before.if1.true (eqb-true a.entry.operand nobody c.if2.true)
+    to_nobody a.plan a.entry c.before.if1.true (eqb-true a.entry.operand nobody c.if2.true)
 
 cast-result : tie.Need-overflow-cast-result
 cast-result c = search rules
 
 returns-2 : tie.Need-returns-2
-returns-2 c = let a = c.before.before.args in of-timer a.plan a.entry c.if3.true
+returns-2 c = let a = c.before.before.args in of_timer a.plan a.entry c.if3.true
 
 returns-3 : tie.Need-returns-3
-returns-3 c = let a = c.before.before.before.args in of-count a.plan a.entry (omega arith) c.if4.true
+returns-3 c = let a = c.before.before.before.args in of_count a.plan a.entry (omega arith) c.if4.true
 
 cast-result-2 : tie.Need-overflow-cast-result-2
 cast-result-2 c = search rules
@@ -37,20 +37,20 @@ kinds c =
     let k = c.before.before.before.before.args.entry.kind in
     let low : Bool = leb 16 k in
     let high : Bool = leb k 20 in
-    ⊎_elim (λ i. second-asked low high (le-leb 16 k i.0.taken) i.1) (λ i. first-fails low high (lt-leb 16 k i.0.left) i.1) c.if5.branch
+    ⊎_elim (λ i. second_asked low high (le-leb 16 k i.0.taken) i.1) (λ i. first_fails low high (lt-leb 16 k i.0.left) i.1) c.if5.branch
 
 -- a Switch does not name nobody any more
 named : (c : tie.Joined1) → c.before.args.entry.kind ≡ 17 → c.before.args.entry.operand ≢ nobody
 named c e = ⊎_elim (λ i. eqb-false c.before.args.entry.operand nobody i.1.left) (λ i. absurd (i.left e)) c.if1.branch
 
 -- none of the other reports is left, so that the thread decides
-by-thread : (c : tie.Joined5) → let a = c.before.before.before.before.args in c.if5.if6 && ltb a.entry.operand a.plan.threads ≡ allowed (view a.plan) (report (reportOf a.entry))
+by-thread : (c : tie.Joined5) → let a = c.before.before.before.before.args in c.if5.if6 && ltb a.entry.operand a.plan.threads ≡ allowed (view a.plan) (report (report_of a.entry))
 by-thread c =
     let l = c.before in
     let e = l.before in
     let s = e.before.before in
     let a = s.args in
-    ap (λ b. b && ltb a.entry.operand a.plan.threads) (kinds c) ∙ to-thread a.plan a.entry s.requires (named e.before) e.if3.false l.if4.false
+    ap (λ b. b && ltb a.entry.operand a.plan.threads) (kinds c) ∙ to_thread a.plan a.entry s.requires (named e.before) e.if3.false l.if4.false
 
 returns-4 : tie.Need-returns-4
 returns-4 c =

@@ -8,8 +8,8 @@ use native.Mathlib.Omega.{arith}
 use borrow.Author.Rules.{rules}
 use lib.ListN.{drop}
 use Rattle.model.specs.Searches.{up_to}
-use Rattle.model.specs.Records.{timerCount}
-use Rattle.model.specs.Formed.{times, owedNone}
+use Rattle.model.specs.Records.{timer_count}
+use Rattle.model.specs.Formed.{times, owed_none}
 use Rattle.model.proofs.Loops.{left, begin, turn, done}
 use Rattle.clock.specs.declared.timers.Timers.{Timers}
 use Rattle.clock.specs.View.{view}
@@ -20,27 +20,27 @@ use Rattle.formed.proofs.reports.owed_none.Tie as tie
 
 module _ (ts : Timers) (rs : Reports) (given : ℕ) where
   abbrev passes : ℕ → Bool
-  passes i = owedNone (view ts) (drop given (owed rs)) i
+  passes i = owed_none (view ts) (drop given (owed rs)) i
 
   -- how many from i on pass
   abbrev from : ℕ → ℕ
-  from i = times passes (left i timerCount)
+  from i = times passes (left i timer_count)
 
-  next : (i : ℕ) → i < timerCount → {b : Bool} → passes i ≡ b → from i ≡ cond b (from (i + 1) + 1) (from (i + 1))
-  next i h {b} e = turn (times passes) timerCount i h ∙ go b e
+  next : (i : ℕ) → i < timer_count → {b : Bool} → passes i ≡ b → from i ≡ cond b (from (i + 1) + 1) (from (i + 1))
+  next i h {b} e = turn (times passes) timer_count i h ∙ go b e
     where
-      go : (b : Bool) → passes i ≡ b → times passes (i ∷ left (i + 1) timerCount) ≡ cond b (from (i + 1) + 1) (from (i + 1))
+      go : (b : Bool) → passes i ≡ b → times passes (i ∷ left (i + 1) timer_count) ≡ cond b (from (i + 1) + 1) (from (i + 1))
       go true q = rw q (omega arith)
       go false q = rw q
 
 abbrev invariant-loop : tie.invariant-loop
-invariant-loop timers reports given count₀ i₀ count i = (count ≤ i) × (i ≤ 8) × (count + from timers reports given i ≡ times (passes timers reports given) (up_to timerCount))
+invariant-loop timers reports given count₀ i₀ count i = (count ≤ i) × (i ≤ 8) × (count + from timers reports given i ≡ times (passes timers reports given) (up_to timer_count))
 
 abbrev decreases-loop : tie.decreases-loop
 decreases-loop timers reports given count₀ i₀ count i = 8 - i
 
 loop-holds : tie.Need-loop-init invariant-loop decreases-loop
-loop-holds c = let a = c.args in (omega arith, omega arith, omega (arith, begin (times (passes a.timers a.reports a.given)) timerCount))
+loop-holds c = let a = c.args in (omega arith, omega arith, omega (arith, begin (times (passes a.timers a.reports a.given)) timer_count))
 
 cast-is-armed : tie.Need-overflow-cast-is-armed invariant-loop decreases-loop
 cast-is-armed c = search rules
@@ -74,9 +74,9 @@ loop-again c =
     let step : (b : Bool) → passes a.timers a.reports a.given k.loop.i ≡ b → from a.timers a.reports a.given k.loop.i ≡ cond b (from a.timers a.reports a.given (k.loop.i + 1) + 1) (from a.timers a.reports a.given (k.loop.i + 1)) =
     λ b q. next a.timers a.reports a.given k.loop.i h {b = b} q in
     ⊎_elim
-    (λ w. let q = step true (rw (sym e.is-armed.ensures ∙ w.0.taken, ap not (sym w.1.ensures) ∙ w.2.taken)) in (omega (arith, w.3, v.0), omega (arith, h), omega (arith, w.3, v.2, q)))
+    (λ w. let q = step true (rw (sym e.is_armed_lem.ensures ∙ w.0.taken, ap not (sym w.1.ensures) ∙ w.2.taken)) in (omega (arith, w.3, v.0), omega (arith, h), omega (arith, w.3, v.2, q)))
     (λ w.
-    let q = step false (⊎_elim (λ u. rw (sym e.is-armed.ensures ∙ u.0.taken, ap not (sym u.1.ensures) ∙ u.2.left)) (λ u. rw (sym e.is-armed.ensures ∙ u.left)) w.0.came) in
+    let q = step false (⊎_elim (λ u. rw (sym e.is_armed_lem.ensures ∙ u.0.taken, ap not (sym u.1.ensures) ∙ u.2.left)) (λ u. rw (sym e.is_armed_lem.ensures ∙ u.left)) w.0.came) in
     (omega (arith, w.1, v.0), omega (arith, h), omega (arith, w.1, v.2, q)))
     c.if1.branch
 
@@ -84,7 +84,7 @@ returns : tie.Need-returns invariant-loop decreases-loop
 returns c =
     let k = c.before in
     let a = k.before.args in
-    omega (arith, k.loop.invariant.2, done (times (passes a.timers a.reports a.given)) timerCount k.loop.i (omega (arith, c.loop-test.false)))
+    omega (arith, k.loop.invariant.2, done (times (passes a.timers a.reports a.given)) timer_count k.loop.i (omega (arith, c.loop-test.false)))
 
 pub owed-none-spec : {M : Type 1} → statement M
 owed-none-spec = tie.close (tie.spec invariant-loop decreases-loop loop-holds cast-is-armed is-armed-requires cast-owes-expire owes-expire-requires add-count add-i loop-less loop-again returns)

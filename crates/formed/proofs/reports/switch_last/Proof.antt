@@ -8,29 +8,29 @@ use borrow.Author.Rules.{rules}
 use borrow.Author.Tests.{eq-eqb, ne_eqb}
 use lib.ListN.{drop, get_or}
 use Rattle.model.specs.Searches.{is_empty}
-use Rattle.model.specs.Records.{isSwitch}
-use Rattle.model.specs.Formed.{switchLast}
+use Rattle.model.specs.Records.{is_switch}
+use Rattle.model.specs.Formed.{switch_last}
 use Rattle.due.specs.declared.reports.Report.{Report}
-use Rattle.due.specs.Lists.{reportRoom, reportOf, noReport, owed}
-use Rattle.due.proofs.Laws.{switch-is, none-due, next-due}
+use Rattle.due.specs.Lists.{report_room, report_of, no_report, owed}
+use Rattle.due.proofs.Laws.{switch_is, none_due, next_due}
 use Rattle.formed.proofs.reports.switch_last.Statement.{statement}
 use Rattle.formed.proofs.reports.switch_last.Tie as tie
 
 module _ (items : List Report) (n : ℕ) where
   abbrev entry : ℕ → Report
-  entry i = get_or items i noReport
+  entry i = get_or items i no_report
 
   -- whether a Switch among those from i on is last
   abbrev from : ℕ → Bool
-  from i = switchLast (drop i (owed (record { items = items; count = n })))
+  from i = switch_last (drop i (owed (record { items = items; count = n })))
 
   -- this one is not the last
-  left : (given i : ℕ) → i + 1 < n → from i ≡ from given → {b : Bool} → isSwitch (reportOf (entry i)) ≡ b → (not b || false) && from (i + 1) ≡ from given
+  left : (given i : ℕ) → i + 1 < n → from i ≡ from given → {b : Bool} → is_switch (report_of (entry i)) ≡ b → (not b || false) && from (i + 1) ≡ from given
   left given i h q e =
-      ap₂ (λ b l. (not b || is_empty l) && from (i + 1)) (sym e) (sym (next-due entry n (i + 1) h)) ∙ sym (ap switchLast (next-due entry n i (omega arith))) ∙ q
+      ap₂ (λ b l. (not b || is_empty l) && from (i + 1)) (sym e) (sym (next_due entry n (i + 1) h)) ∙ sym (ap switch_last (next_due entry n i (omega arith))) ∙ q
 
   done : (i : ℕ) → i + 1 ≡ n → from i ≡ true
-  done i e = ap switchLast (next-due entry n i (omega arith)) ∙ ap (λ l. (not (isSwitch (reportOf (entry i))) || is_empty l) && switchLast l) (none-due entry n (i + 1) (omega arith)) ∙ either (not (isSwitch (reportOf (entry i))))
+  done i e = ap switch_last (next_due entry n i (omega arith)) ∙ ap (λ l. (not (is_switch (report_of (entry i))) || is_empty l) && switch_last l) (none_due entry n (i + 1) (omega arith)) ∙ either (not (is_switch (report_of (entry i))))
     where
       either : (b : Bool) → (b || true) && true ≡ true
       either true = refl
@@ -48,7 +48,7 @@ sub-last c = omega (arith, c.before.before.requires.0)
 loop-holds : tie.Need-loop-init invariant-loop decreases-loop
 loop-holds c = (omega (arith, c.before.before.requires.0), refl)
 
-room : (l : tie.In-loop invariant-loop decreases-loop) → l.before.loop.i < reportRoom
+room : (l : tie.In-loop invariant-loop decreases-loop) → l.before.loop.i < report_room
 room l = omega (arith, l.loop-test.true, l.before.before.before.before.requires.1)
 
 mul-r : tie.Need-overflow-mul-r invariant-loop decreases-loop
@@ -67,7 +67,7 @@ returns c =
     let k = l.before in
     let a = k.before.before.before.args in
     let x = entry a.reports.items a.reports.count k.loop.i in
-    left a.reports.items (a.reports.count - 1 + 1) a.given k.loop.i (omega (arith, l.loop-test.true)) k.loop.invariant.1 {b = true} (switch-is x ∙ eq-eqb x.kind 17 c.if1.true)
+    left a.reports.items (a.reports.count - 1 + 1) a.given k.loop.i (omega (arith, l.loop-test.true)) k.loop.invariant.1 {b = true} (switch_is x ∙ eq-eqb x.kind 17 c.if1.true)
     ∙ ap (λ n. from a.reports.items n a.given) (all-due k)
 
 add-i : tie.Need-overflow-add-i invariant-loop decreases-loop
@@ -82,7 +82,7 @@ loop-again c =
     let k = l.before in
     let a = k.before.before.before.args in
     let x = entry a.reports.items a.reports.count k.loop.i in
-    (omega (arith, l.loop-test.true), left a.reports.items (a.reports.count - 1 + 1) a.given k.loop.i (omega (arith, l.loop-test.true)) k.loop.invariant.1 {b = false} (switch-is x ∙ ne_eqb x.kind 17 c.if1.false))
+    (omega (arith, l.loop-test.true), left a.reports.items (a.reports.count - 1 + 1) a.given k.loop.i (omega (arith, l.loop-test.true)) k.loop.invariant.1 {b = false} (switch_is x ∙ ne_eqb x.kind 17 c.if1.false))
 
 returns-2 : tie.Need-returns-2 invariant-loop decreases-loop
 returns-2 c =

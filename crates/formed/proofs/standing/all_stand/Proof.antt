@@ -12,9 +12,9 @@ use Rattle.model.specs.Formed.{times}
 use Rattle.model.proofs.Tests.{split, is_true, is_false}
 use Rattle.lists.specs.Words.{nibble}
 use Rattle.lists.specs.Lists.{queued}
-use Rattle.lists.proofs.Laws.{zero-nibble, times-within}
-use Rattle.formed.specs.Contracts.{allStand}
-use Rattle.formed.proofs.Bits.{Counting, all-standing, no-high, odds-are, halves_are, both-are}
+use Rattle.lists.proofs.Laws.{zero_nibble, times_within}
+use Rattle.formed.specs.Clauses.{all_stand}
+use Rattle.formed.proofs.Bits.{Counting, all_standing, no_high, odds_are, halves_are, both_are}
 use Rattle.formed.proofs.standing.all_stand.Statement.{statement}
 use Rattle.formed.proofs.standing.all_stand.Tie as tie
 
@@ -23,10 +23,10 @@ fits : (c : tie.Start) (waiting count : ℕ) → let a = c.args in
     count + a.waits.count < 16 → ((t : ℕ) → t < 16 → nibble waiting t ≡ nibble 0 t + times (λ u. eqb u t) (queued a.waits)) → (count ≤ 16) × ((t : ℕ) → t < 16 → nibble waiting t + count < 16)
 fits c waiting count k e =
     let a = c.args in
-    (omega (arith, k), λ t h. omega (arith, k, e t h, zero-nibble t, times-within (λ u. eqb u t) a.waits.count a.waits.items))
+    (omega (arith, k), λ t h. omega (arith, k, e t h, zero_nibble t, times_within (λ u. eqb u t) a.waits.count a.waits.items))
 
 marks-requires : tie.Need-marks-requires
-marks-requires c κs = (omega (arith, c.requires.0), λ t h. omega (arith, c.requires.0, zero-nibble t))
+marks-requires c κs = (omega (arith, c.requires.0), λ t h. omega (arith, c.requires.0, zero_nibble t))
 
 marks-requires-2 : tie.Need-marks-requires-2
 marks-requires-2 c κs = fits c.before c.marks.result c.before.args.queue.count c.before.requires.0 c.marks.ensures
@@ -45,24 +45,24 @@ module _ (c : tie.After-marks3) where
         waiting = c.before.before.marks.result;
         lowest = c.before.marks2.result;
         next = c.marks3.result;
-        waiting' = λ t h. omega (arith, c.before.before.marks.ensures t h, zero-nibble t);
+        waiting' = λ t h. omega (arith, c.before.before.marks.ensures t h, zero_nibble t);
         lowest' = c.before.marks2.ensures;
         next' = c.marks3.ensures;
         fit = (search rules, search rules, search rules);
       }
 
   abbrev answer : Bool
-  answer = allStand start.args.states (queued start.args.queue) (queued start.args.waits) (queued start.args.delays)
+  answer = all_stand start.args.states (queued start.args.queue) (queued start.args.waits) (queued start.args.delays)
 
   -- where not all stand so, the answer is No
   no-unless : (T answer → ⊥) → false ≡ answer
   no-unless f = elim (split answer) [ inl a ↦ absurd (f a) | inr b ↦ sym (is_false answer b) ]
 
 returns : tie.Need-returns
-returns c = let k = c.before in no-unless k (λ a. c.if1.true (no-high (start k).args.states (words k) a))
+returns c = let k = c.before in no-unless k (λ a. c.if1.true (no_high (start k).args.states (words k) a))
 
 returns-2 : tie.Need-returns-2
-returns-2 c = let k = c.before.before in no-unless k (λ a. c.if2.true (odds-are (start k).args.states (words k) a))
+returns-2 c = let k = c.before.before in no-unless k (λ a. c.if2.true (odds_are (start k).args.states (words k) a))
 
 returns-3 : tie.Need-returns-3
 returns-3 c = let k = c.before.before.before in no-unless k (λ a. c.if3.true (halves_are (start k).args.states (words k) a))
@@ -76,8 +76,8 @@ returns-4 c =
     let waiting = k.before.before.marks.result in
     let both = bit_and k.before.marks2.result k.marks3.result in
     elim (split (answer k)) [
-      | inl a ↦ eq-eqb both waiting (both-are s (words k) a) ∙ sym (is_true (answer k) a)
-      | inr b ↦ ne_eqb both waiting (λ e. T_not (answer k) b (all-standing s (words k) o.if1.false n.if2.false c.if3.false e)) ∙ sym (is_false (answer k) b)
+      | inl a ↦ eq-eqb both waiting (both_are s (words k) a) ∙ sym (is_true (answer k) a)
+      | inr b ↦ ne_eqb both waiting (λ e. T_not (answer k) b (all_standing s (words k) o.if1.false n.if2.false c.if3.false e)) ∙ sym (is_false (answer k) b)
     ]
 
 pub all-stand-spec : {M : Type 1} → statement M

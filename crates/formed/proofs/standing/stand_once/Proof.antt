@@ -5,11 +5,11 @@ use mathlib.Core.Bool.{Bool, ◌&&◌}
 use Prim.Native.Nat.{◌+◌}
 use borrow.Author.Rules.{rules}
 use borrow.Author.Tests.{ltb-true}
-use Rattle.model.proofs.Tests.{from-true}
+use Rattle.model.proofs.Tests.{from_true}
 use Rattle.lists.specs.Lists.{queued}
-use Rattle.formed.specs.Contracts.{allStand, namesThose}
+use Rattle.formed.specs.Clauses.{all_stand, names_those}
 use Rattle.formed.proofs.Bits.{all_listed}
-use Rattle.formed.proofs.Outside.{second-asked, first-fails}
+use Rattle.formed.proofs.Outside.{second_asked, first_fails}
 use Rattle.formed.proofs.standing.stand_once.Statement.{statement}
 use Rattle.formed.proofs.standing.stand_once.Tie as tie
 
@@ -29,7 +29,7 @@ returns : tie.Need-returns
 returns c =
     let s = c.before.before.before.before.before.before.before.before in
     let a = s.args in
-    sym (all_listed a.threads a.states (queued a.queue) (queued a.waits) (queued a.delays) s.requires.0 (from-true (allStand a.states (queued a.queue) (queued a.waits) (queued a.delays)) (sym c.before.all-stand.ensures ∙ c.if3.true)))
+    sym (all_listed a.threads a.states (queued a.queue) (queued a.waits) (queued a.delays) s.requires.0 (from_true (all_stand a.states (queued a.queue) (queued a.waits) (queued a.delays)) (sym c.before.all-stand.ensures ∙ c.if3.true)))
 
 names-requires : tie.Need-names-requires
 names-requires c κs = search rules
@@ -39,13 +39,13 @@ names-requires-2 c κs = search rules
 
 -- the queue and the waits
 first_two : (c : tie.Joined4) → let a = c.before.before.before.before.before.args in
-    c.if4.if5 ≡ namesThose a.threads a.states (queued a.queue) 1 1 && namesThose a.threads a.states (queued a.waits) 3 15
+    c.if4.if5 ≡ names_those a.threads a.states (queued a.queue) 1 1 && names_those a.threads a.states (queued a.waits) 3 15
 first_two c =
     let k = c.before in
     let a = k.before.before.before.before.args in
-    let q : Bool = namesThose a.threads a.states (queued a.queue) 1 1 in
-    let w : Bool = namesThose a.threads a.states (queued a.waits) 3 15 in
-    ⊎_elim (λ i. second-asked q w (sym k.names.ensures ∙ i.0.taken) (i.2 ∙ i.1.ensures)) (λ i. first-fails q w (sym k.names.ensures ∙ i.0.left) (i.1 ∙ k.names.ensures)) c.if4.branch
+    let q : Bool = names_those a.threads a.states (queued a.queue) 1 1 in
+    let w : Bool = names_those a.threads a.states (queued a.waits) 3 15 in
+    ⊎_elim (λ i. second_asked q w (sym k.names.ensures ∙ i.0.taken) (i.2 ∙ i.1.ensures)) (λ i. first_fails q w (sym k.names.ensures ∙ i.0.left) (i.1 ∙ k.names.ensures)) c.if4.branch
 
 names-requires-3 : tie.Need-names-requires-3
 names-requires-3 c κs = search rules
@@ -54,15 +54,15 @@ returns-2 : tie.Need-returns-2
 returns-2 c =
     let j = c.before.before in
     let a = j.before.before.before.before.before.args in
-    let d : Bool = namesThose a.threads a.states (queued a.delays) 2 2 in
-    second-asked (namesThose a.threads a.states (queued a.queue) 1 1 && namesThose a.threads a.states (queued a.waits) 3 15) d (sym (first_two j) ∙ c.before.if5.true) c.names3.ensures
+    let d : Bool = names_those a.threads a.states (queued a.delays) 2 2 in
+    second_asked (names_those a.threads a.states (queued a.queue) 1 1 && names_those a.threads a.states (queued a.waits) 3 15) d (sym (first_two j) ∙ c.before.if5.true) c.names3.ensures
 
 returns-3 : tie.Need-returns-3
 returns-3 c =
     let j = c.before in
     let a = j.before.before.before.before.before.args in
-    let d : Bool = namesThose a.threads a.states (queued a.delays) 2 2 in
-    first-fails (namesThose a.threads a.states (queued a.queue) 1 1 && namesThose a.threads a.states (queued a.waits) 3 15) d (sym (first_two j) ∙ c.if5.false) (first_two j)
+    let d : Bool = names_those a.threads a.states (queued a.delays) 2 2 in
+    first_fails (names_those a.threads a.states (queued a.queue) 1 1 && names_those a.threads a.states (queued a.waits) 3 15) d (sym (first_two j) ∙ c.if5.false) (first_two j)
 
 pub stand-once-spec : {M : Type 1} → statement M
 stand-once-spec = tie.close (tie.spec add-if1 add-if2 all-stand-requires returns names-requires names-requires-2 names-requires-3 returns-2 returns-3)

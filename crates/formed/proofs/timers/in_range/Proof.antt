@@ -3,11 +3,11 @@ use mathlib.Core.Path.{sym, ◌∙◌}
 use mathlib.Core.Bool.{Bool}
 use borrow.Author.Rules.{rules}
 use Rattle.model.specs.Searches.{all, up_to}
-use Rattle.model.specs.Records.{timerCount}
-use Rattle.model.specs.Formed.{armingInRange, timerInRange}
+use Rattle.model.specs.Records.{timer_count}
+use Rattle.model.specs.Formed.{arming_in_range, timer_in_range}
 use Rattle.clock.specs.View.{view}
-use Rattle.formed.proofs.Outside.{second-asked, first-fails}
-use Rattle.formed.proofs.Timing.{expiries-in-range}
+use Rattle.formed.proofs.Outside.{second_asked, first_fails}
+use Rattle.formed.proofs.Timing.{expiries_in_range}
 use Rattle.formed.proofs.timers.in_range.Statement.{statement}
 use Rattle.formed.proofs.timers.in_range.Tie as tie
 
@@ -21,15 +21,15 @@ returns : tie.Need-returns
 returns c =
     let k = c.before in
     let t = k.before.before.before.before.args.timers in
-    let a : Bool = armingInRange (view t).arming in
-    second-asked a (all timerInRange (view t).slots) (sym k.before.arming-in-range.ensures ∙ k.if1.true) (c.in-time.ensures ∙ expiries-in-range t (up_to timerCount))
+    let a : Bool = arming_in_range (view t).arming in
+    second_asked a (all timer_in_range (view t).slots) (sym k.before.arming-in-range.ensures ∙ k.if1.true) (c.in-time.ensures ∙ expiries_in_range t (up_to timer_count))
 
 returns-2 : tie.Need-returns-2
 returns-2 c =
     let t = c.before.before.before.before.args.timers in
-    let a : Bool = armingInRange (view t).arming in
+    let a : Bool = arming_in_range (view t).arming in
     let e = c.before.arming-in-range.ensures in
-    first-fails a (all timerInRange (view t).slots) (sym e ∙ c.if1.false) e
+    first_fails a (all timer_in_range (view t).slots) (sym e ∙ c.if1.false) e
 
 pub in-range-spec : {M : Type 1} → statement M
 in-range-spec = tie.close (tie.spec arming-in-range-requires in-time-requires returns returns-2)

@@ -6,14 +6,14 @@ use native.Mathlib.Omega.{arith}
 use borrow.Author.Rules.{rules}
 use borrow.Author.Tests.{le-leb, lt-leb}
 use lib.Dec.{leb}
-use Rattle.model.specs.Formed.{lastExpiry}
-use Rattle.model.proofs.Loops.{AllPass, all-begin, pass_kept, pass-lost, all_asked}
+use Rattle.model.specs.Formed.{last_expiry}
+use Rattle.model.proofs.Loops.{AllPass, all_begin, pass_kept, pass_lost, all_asked}
 use Rattle.clock.specs.View.{number_at}
 use Rattle.formed.proofs.timers.in_time.Statement.{statement}
 use Rattle.formed.proofs.timers.in_time.Tie as tie
 
 abbrev early : ℕ → Bool
-early n = leb n lastExpiry
+early n = leb n last_expiry
 
 abbrev invariant-loop : tie.invariant-loop
 invariant-loop expiries pass₀ i₀ pass i = (i ≤ 8) × AllPass early (number_at expiries) 8 i pass
@@ -22,7 +22,7 @@ abbrev decreases-loop : tie.decreases-loop
 decreases-loop expiries pass₀ i₀ pass i = 8 - i
 
 loop-holds : tie.Need-loop-init invariant-loop decreases-loop
-loop-holds c = (omega arith, all-begin early (number_at c.args.t1) 8)
+loop-holds c = (omega arith, all_begin early (number_at c.args.t1) 8)
 
 mul-expiry : tie.Need-overflow-mul-expiry invariant-loop decreases-loop
 mul-expiry c = search rules
@@ -40,12 +40,12 @@ loop-again : tie.Need-loop-preserved invariant-loop decreases-loop
 loop-again c =
     let k = c.before.before.before.before.before in
     let expiry : ℕ → ℕ = number_at k.before.args.t1 in
-    let lost = pass-lost early expiry 8 k.loop.i k.loop.pass (omega arith) k.loop.invariant.1 c.if1.pass in
+    let lost = pass_lost early expiry 8 k.loop.i k.loop.pass (omega arith) k.loop.invariant.1 c.if1.pass in
     let kept = pass_kept early expiry 8 k.loop.i k.loop.pass (omega arith) k.loop.invariant.1 c.if1.pass in (
       omega arith,
       ⊎_elim
-          (λ w. lost w.1 (lt-leb (expiry k.loop.i) lastExpiry w.0.taken))
-          (λ w. kept w.1 (le-leb (expiry k.loop.i) lastExpiry w.0.left))
+          (λ w. lost w.1 (lt-leb (expiry k.loop.i) last_expiry w.0.taken))
+          (λ w. kept w.1 (le-leb (expiry k.loop.i) last_expiry w.0.left))
           c.if1.branch,
     )
 

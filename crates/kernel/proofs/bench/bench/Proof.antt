@@ -5,14 +5,14 @@ use mathlib.Core.Option.{none}
 use native.Mathlib.Omega.{arith}
 use borrow.Author.Tests.{not-false}
 use lib.Dec.{T}
-use Rattle.model.specs.Plan.{validPlan}
-use Rattle.model.proofs.Tests.{from-true}
+use Rattle.model.specs.Plan.{valid_plan}
+use Rattle.model.proofs.Tests.{from_true}
 use Rattle.plan.specs.Bytes as plans
 use Rattle.plan.proofs.Laws as plan-laws
 use Rattle.dump.specs.Questions as dumps
 use Rattle.dump.proofs.Laws as dump-laws
-use Rattle.kernel.specs.Contracts.{Passed}
-use Rattle.kernel.proofs.Answering.{refused-by, list-passes, Tallied, tallied, not-admitted, too_many, no-space, written}
+use Rattle.kernel.specs.Clauses.{Passed}
+use Rattle.kernel.proofs.Answering.{refused_by, list_passes, Tallied, tallied, not_admitted, too_many, no_space, written}
 use Rattle.kernel.proofs.bench.bench.Statement.{statement}
 use Rattle.kernel.proofs.bench.bench.Tie as tie
 
@@ -32,14 +32,14 @@ refusal-requires c κs = tt
 returns : tie.Need-returns
 returns c =
     let a = c.before.before.before.before.before.args in
-    refused-by a.plan.now a.list.now a.out.now c.before.refusal.result (dump-laws.refused-plan c.before.refusal.ensures c.if1.true)
+    refused_by a.plan.now a.list.now a.out.now c.before.refusal.result (dump-laws.refused_plan c.before.refusal.ensures c.if1.true)
 
 -- nothing refuses the plan
-plan-passes : (c : tie.Else1) → plans.refusal (lent c).args.plan.now ≡ none
-plan-passes c = plan-laws.refusal-zero (lent c).args.plan.now (sym c.before.refusal.ensures ∙ c.if1.false)
+plan_passes : (c : tie.Else1) → plans.refusal (lent c).args.plan.now ≡ none
+plan_passes c = plan-laws.refusal_zero (lent c).args.plan.now (sym c.before.refusal.ensures ∙ c.if1.false)
 
 read-requires : tie.Need-read-requires
-read-requires c κs = plan-passes c
+read-requires c κs = plan_passes c
 
 refusal-requires-2 : tie.Need-refusal-requires-2
 refusal-requires-2 c κs = tt
@@ -48,8 +48,8 @@ returns-2 : tie.Need-returns-2
 returns-2 c =
     let r = c.before.before in
     let a = (lent r.before).args in
-    refused-by a.plan.now a.list.now a.out.now c.before.refusal2.result
-    (dump-laws.refused-list (plan-passes r.before) r.read.ensures c.before.refusal2.ensures c.if2.true)
+    refused_by a.plan.now a.list.now a.out.now c.before.refusal2.result
+    (dump-laws.refused_list (plan_passes r.before) r.read.ensures c.before.refusal2.ensures c.if2.true)
 
 ceilings-requires : tie.Need-ceilings-requires
 ceilings-requires c κs = (read_of c).read.ensures.fits
@@ -57,7 +57,7 @@ ceilings-requires c κs = (read_of c).read.ensures.fits
 -- nothing refuses the list
 passes : (c : tie.Else2) → dumps.refusal (read_of c).read.result.threads (read_of c).read.result.sections true (lent (read_of c).before).args.list.now ≡ none
 passes c =
-    list-passes (read_of c).read.result.threads (read_of c).read.result.sections (lent (read_of c).before).args.list.now c.before.refusal2.result c.before.refusal2.ensures c.if2.false
+    list_passes (read_of c).read.result.threads (read_of c).read.result.sections (lent (read_of c).before).args.list.now c.before.refusal2.result c.before.refusal2.ensures c.if2.false
 
 record-count-requires : tie.Need-record-count-requires
 record-count-requires c κs =
@@ -69,7 +69,7 @@ passed : (c : tie.After-all) → (let r = read_of (taken_of c) in Passed r.read.
 passed c =
     let r = read_of (taken_of c) in
     record {
-      valid = subst (λ p. T (validPlan p)) (sym r.read.ensures.seen) (plan-laws.refusal-none-valid (lent r.before).args.plan.now (plan-passes r.before));
+      valid = subst (λ p. T (valid_plan p)) (sym r.read.ensures.seen) (plan-laws.refusal_none_valid (lent r.before).args.plan.now (plan_passes r.before));
       ceilings' = c.before.before.ceilings.ensures;
       passes = passes (taken_of c);
       count = c.before.record-count.ensures;
@@ -89,13 +89,13 @@ counted : (t : tie.After-tally) → Tallied (start t).args.plan.now (start t).ar
 counted t =
     let r = read_at t in
     let a = (start t).args in
-    tallied a.plan.now a.list.now r.read.result r.read.ensures (plan-passes r.before) t.tally.result (passes (taken_of t.before)) t.tally.ensures
+    tallied a.plan.now a.list.now r.read.result r.read.ensures (plan_passes r.before) t.tally.result (passes (taken_of t.before)) t.tally.ensures
 
 returns-3 : tie.Need-returns-3
 returns-3 c =
     let t = c.before.before in
     let a = (start t).args in
-    not-admitted a.plan.now a.list.now a.out.now (counted t) c.if3.true
+    not_admitted a.plan.now a.list.now a.out.now (counted t) c.if3.true
 
 returns-4 : tie.Need-returns-4
 returns-4 c =
@@ -113,7 +113,7 @@ returns-5 : tie.Need-returns-5
 returns-5 c =
     let t = c.before.before.before.before in
     let a = (start t).args in
-    no-space a.plan.now a.list.now a.out.now (counted t) c.before.before.if3.false c.before.if4.false c.if5.true
+    no_space a.plan.now a.list.now a.out.now (counted t) c.before.before.if3.false c.before.if4.false c.if5.true
 
 write-requires : tie.Need-write-requires
 write-requires c κs =
@@ -122,7 +122,7 @@ write-requires c κs =
     let k = t.tally.ensures in (
       passed t.before,
       record {
-        admitted = from-true _ (sym k.admitted' ∙ not-false t.tally.result.admitted e.before.before.if3.false);
+        admitted = from_true _ (sym k.admitted' ∙ not-false t.tally.result.admitted e.before.before.if3.false);
         count = k.records';
         few = e.before.if4.false;
         room = e.if5.false;

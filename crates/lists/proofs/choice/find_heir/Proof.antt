@@ -11,7 +11,7 @@ use Rattle.lists.specs.Words.{entry_of}
 use Rattle.lists.specs.Lists.{queued, held}
 use Rattle.lists.proofs.Queues.{nobody}
 use Rattle.lists.proofs.Holdings.{AnyLeft, missed, found, none_found}
-use Rattle.lists.proofs.Heirs.{bars, HeirLeft, turns-to, stays, found-heir}
+use Rattle.lists.proofs.Heirs.{bars, HeirLeft, turns_to, stays, found_heir}
 use Rattle.lists.proofs.choice.find_heir.Statement.{statement}
 use Rattle.lists.proofs.choice.find_heir.Tie as tie
 
@@ -82,7 +82,7 @@ module _ (p : tie.Then1 invariant-loop decreases-loop invariant-waits decreases-
   on-with f e =
       let a = p.before.before.before.before.args.waits in
       let w = p.before.before.waits in
-      turns-to base ceilings holding a.count a.items w.who w.free w.top w.left w.rest p.before.waits-test.taken w.inv p.if1.taken f e
+      turns_to base ceilings holding a.count a.items w.who w.free w.top w.left w.rest p.before.waits-test.taken w.inv p.if1.taken f e
 
 waits-again : tie.Need-waits-preserved invariant-loop decreases-loop invariant-waits decreases-waits
 waits-again c =
@@ -131,7 +131,7 @@ returns c =
     let o = c.before in
     let a = o.before.before.args in
     let w = o.waits in
-    found-heir (entry_of a.t1) a.ceilings.now (held a.holds) a.waits.count a.waits.items w.who w.free w.top w.left w.rest
+    found_heir (entry_of a.t1) a.ceilings.now (held a.holds) a.waits.count a.waits.items w.who w.free w.top w.left w.rest
     c.waits-test.false w.invariant
 
 pub find-heir-spec : {M : Type 1} → statement M

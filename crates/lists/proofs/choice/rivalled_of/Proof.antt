@@ -4,8 +4,8 @@ use native.Mathlib.Omega.{arith}
 use borrow.Author.Rules.{rules}
 use Rattle.lists.specs.Words.{entry_of}
 use Rattle.lists.specs.Lists.{queued}
-use Rattle.lists.proofs.Laws.{nibbles-small}
-use Rattle.lists.proofs.Current.{rivalled-by}
+use Rattle.lists.proofs.Laws.{nibbles_small}
+use Rattle.lists.proofs.Current.{rivalled_by}
 use Rattle.lists.proofs.choice.rivalled_of.Statement.{statement}
 use Rattle.lists.proofs.choice.rivalled_of.Tie as tie
 
@@ -21,7 +21,7 @@ returns c =
     let a = s.args in
     let base = entry_of a.bases in
     rw c.before.urgency.ensures at c.rivalled.ensures
-    ∙ rivalled-by base a.owner (queued a.waits) (queued a.queue) (λ t i. omega (arith, nibbles-small a.queue.count a.queue.items t i)) a.thread (omega (arith, s.requires.2))
+    ∙ rivalled_by base a.owner (queued a.waits) (queued a.queue) (λ t i. omega (arith, nibbles_small a.queue.count a.queue.items t i)) a.thread (omega (arith, s.requires.2))
 
 pub rivalled-of-spec : {M : Type 1} → statement M
 rivalled-of-spec = tie.close (tie.spec urgency-requires rivalled-requires returns)

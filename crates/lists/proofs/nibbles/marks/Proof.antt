@@ -6,9 +6,9 @@ use borrow.Author.Rules.{rules}
 use borrow.Author.Tests.{eq-eqb}
 use lib.Dec.{eqb}
 use Rattle.model.specs.Formed.{times}
-use Rattle.lists.specs.Words.{nibble, withNibble, nibbles}
+use Rattle.lists.specs.Words.{nibble, with_nibble, nibbles}
 use Rattle.lists.proofs.Words.{one_more, set-fits}
-use Rattle.lists.proofs.Queues.{first, ended, marked, times-within}
+use Rattle.lists.proofs.Queues.{first, ended, marked, times_within}
 use Rattle.lists.proofs.nibbles.marks.Statement.{statement}
 use Rattle.lists.proofs.nibbles.marks.Tie as tie
 
@@ -31,10 +31,10 @@ has_room c =
     let l = c.before.loop in
     let a = c.before.before.args in
     let k = l.rest % 16 in
-    omega (arith, c.before.before.requires.1 k (omega arith), rw (first l.left l.rest c.loop-test.true, eq-eqb k k refl) at (l.invariant.1 k (omega arith)), times-within (λ u. eqb u k) a.count a.word)
+    omega (arith, c.before.before.requires.1 k (omega arith), rw (first l.left l.rest c.loop-test.true, eq-eqb k k refl) at (l.invariant.1 k (omega arith)), times_within (λ u. eqb u k) a.count a.word)
 
 -- and stays within the word
-fits : (c : tie.In-loop invariant-loop decreases-loop) → (let l = c.before.loop in withNibble l.total (l.rest % 16) (nibble l.total (l.rest % 16) + 1) < 2 ^ 64)
+fits : (c : tie.In-loop invariant-loop decreases-loop) → (let l = c.before.loop in with_nibble l.total (l.rest % 16) (nibble l.total (l.rest % 16) + 1) < 2 ^ 64)
 fits c = let l = c.before.loop in set-fits l.total (l.rest % 16) (nibble l.total (l.rest % 16) + 1) (omega arith) l.invariant.0 (has_room c)
 
 mul-by : tie.Need-overflow-mul-by invariant-loop decreases-loop

@@ -11,7 +11,7 @@ use Rattle.model.specs.Searches.{up_to}
 use Rattle.model.specs.Formed.{times}
 use Rattle.model.proofs.Loops.{listed, length-listed}
 use Rattle.lists.specs.Words.{nibbles, entry_of}
-use Rattle.lists.proofs.Queues.{first, ended, counted, times-within}
+use Rattle.lists.proofs.Queues.{first, ended, counted, times_within}
 use Rattle.lists.proofs.nibbles.tally.Statement.{statement}
 use Rattle.lists.proofs.nibbles.tally.Tie as tie
 
@@ -38,7 +38,7 @@ add-found c =
     let l = c.before.before.loop in
     let a = c.before.before.before.args in
     let t = l.rest % 16 in
-    omega (arith, l.invariant.1 t (omega arith), times-within (λ u. eqb u t) a.count a.word)
+    omega (arith, l.invariant.1 t (omega arith), times_within (λ u. eqb u t) a.count a.word)
 
 slice-write-found : tie.Need-slice-write-found invariant-loop decreases-loop
 slice-write-found c = search rules

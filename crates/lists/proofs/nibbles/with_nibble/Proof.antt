@@ -3,8 +3,8 @@ use mathlib.Core.Path.{◌≡◌}
 use Prim.Native.Nat.{◌+◌, ◌-◌, ◌*◌, ◌%◌, ◌^◌}
 use native.Mathlib.Omega.{arith}
 use borrow.Author.Rules.{rules}
-use Rattle.lists.specs.Words.{nibble, withNibble}
-use Rattle.lists.proofs.Words.{nibble-within, exact, set-fits}
+use Rattle.lists.specs.Words.{nibble, with_nibble}
+use Rattle.lists.proofs.Words.{nibble_within, exact, set-fits}
 use Rattle.lists.proofs.nibbles.with_nibble.Statement.{statement}
 use Rattle.lists.proofs.nibbles.with_nibble.Tie as tie
 
@@ -21,11 +21,11 @@ module _ (c : tie.Start) where
   old-exact : nibble c.args.word c.args.place * 2 ^ (4 * c.args.place) % 2 ^ 64 ≡ nibble c.args.word c.args.place * 2 ^ (4 * c.args.place)
   old-exact = exact (nibble c.args.word c.args.place) c.args.place (omega arith) c.requires.0
 
-  sum-exact : (c.args.word - nibble c.args.word c.args.place * 2 ^ (4 * c.args.place) % 2 ^ 64) + c.args.value * 2 ^ (4 * c.args.place) % 2 ^ 64 ≡ withNibble c.args.word c.args.place c.args.value
+  sum-exact : (c.args.word - nibble c.args.word c.args.place * 2 ^ (4 * c.args.place) % 2 ^ 64) + c.args.value * 2 ^ (4 * c.args.place) % 2 ^ 64 ≡ with_nibble c.args.word c.args.place c.args.value
   sum-exact = rw (old-exact, exact c.args.value c.args.place c.requires.1 c.requires.0)
 
 sub-result : tie.Need-overflow-sub-result
-sub-result c = rw (old-exact c) (nibble-within c.args.word c.args.place)
+sub-result c = rw (old-exact c) (nibble_within c.args.word c.args.place)
 
 shl-result-2 : tie.Need-overflow-shl-result-2
 shl-result-2 c = search rules

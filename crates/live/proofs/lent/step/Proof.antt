@@ -43,7 +43,7 @@ use denote.Exit.{yes}
 use Rattle.live.specs.declared.live.Watch.{Watch}
 use Rattle.live.specs.declared.live.Reply.{Reply}
 use Rattle.live.specs.declared.live.Told.{Told}
-use Rattle.live.specs.Contracts.{Tells}
+use Rattle.live.specs.Clauses.{Tells}
 use Rattle.live.specs.contracts.live.Watch as W
 use Rattle.live.proofs.live.Watch.TheLaws as W'
 use Rattle.live.specs.contracts.live.Reply as R

@@ -6,35 +6,35 @@ use Prim.Native.Nat.{ℕ}
 use borrow.Author.Rules.{rules}
 use Rattle.model.specs.Plan as model
 use Rattle.model.specs.State as state
-use Rattle.keeping.specs.Top.{walkBy, walk}
-use Rattle.keeping.proofs.Laws.{fits-walk}
+use Rattle.keeping.specs.Top.{walk_by, walk}
+use Rattle.keeping.proofs.Laws.{fits_walk}
 use Rattle.plan.specs.declared.Plan.{Plan}
 use Rattle.plan.specs.Bytes.{plan_of, refusal, number}
 use Rattle.plan.specs.View.{view}
-use Rattle.plan.proofs.Laws.{refusal-zero}
+use Rattle.plan.proofs.Laws.{refusal_zero}
 use Rattle.lists.specs.Lists.{held, top_of}
 use Rattle.machine.specs.declared.state.State.{State}
-use Rattle.machine.specs.Contracts.{Fresh}
-use Rattle.live.specs.Watching.{fresh, noPlan, planUnless, begin}
-use Rattle.live.specs.Contracts.{seen}
+use Rattle.machine.specs.Clauses.{Fresh}
+use Rattle.live.specs.Watching.{fresh, no_plan, plan_unless, begin}
+use Rattle.live.specs.Clauses.{seen}
 use Rattle.live.proofs.live.begin.Statement.{statement}
 use Rattle.live.proofs.live.begin.Tie as tie
 
 -- a state at its start is what the model makes of its plan
 made : (s : State) (p : Plan) → Fresh s p → {q : model.Plan} → view p ≡ q → seen (record { state = s; rule = 0 }) ≡ fresh q
-unfolding walkBy
-made s p f e = (λ i. record { plan = view (f.plan' i); state = f.seen i; top = nothing-held i; rule = 0 }) ∙ ap fresh e
+unfolding walk_by
+made s p f e = (λ i. record { plan = view (f.plan' i); state = f.seen i; top = nothing_held i; rule = 0 }) ∙ ap fresh e
   where
     -- what is kept is the walk's result, and nothing is held
-    nothing-held : top_of s.machine.holds.top ≡ record { owner = none; ceiling = 0 }
-    nothing-held = fits-walk (view s.machine.plan) (held s.machine.holds) (top_of s.machine.holds.top) f.keeps ∙ ap (λ (st : state.State). walk (view s.machine.plan) st.holds) f.seen
+    nothing_held : top_of s.machine.holds.top ≡ record { owner = none; ceiling = 0 }
+    nothing_held = fits_walk (view s.machine.plan) (held s.machine.holds) (top_of s.machine.holds.top) f.keeps ∙ ap (λ (st : state.State). walk (view s.machine.plan) st.holds) f.seen
 
 -- the plan of bytes that nothing refuses is carried; where a question refuses them, none is
 
-passed : (o : Option ℕ) (p : model.Plan) → o ≡ none → p ≡ planUnless o p
+passed : (o : Option ℕ) (p : model.Plan) → o ≡ none → p ≡ plan_unless o p
 passed o p e = rw e
 
-refused : (o : Option ℕ) (p : model.Plan) → number o ≢ 0 → noPlan ≡ planUnless o p
+refused : (o : Option ℕ) (p : model.Plan) → number o ≢ 0 → no_plan ≡ plan_unless o p
 refused none p d = absurd (d refl)
 refused (some n) p d = refl
 
@@ -42,7 +42,7 @@ refusal-requires : tie.Need-refusal-requires
 refusal-requires c κs = search rules
 
 read-requires : tie.Need-read-requires
-read-requires c κs = refusal-zero _ (sym c.before.refusal.ensures ∙ c.if1.true)
+read-requires c κs = refusal_zero _ (sym c.before.refusal.ensures ∙ c.if1.true)
 
 fresh-requires : tie.Need-fresh-requires
 fresh-requires c κs = search rules
@@ -57,7 +57,7 @@ returns c =
       leaves =
           made c.fresh.result c.before.if1.p c.fresh.ensures
           (⊎_elim
-          (λ w. ap view w.2 ∙ w.1.ensures.seen ∙ passed (refusal bytes) (plan_of bytes) (refusal-zero bytes (sym k.refusal.ensures ∙ w.0.taken)))
+          (λ w. ap view w.2 ∙ w.1.ensures.seen ∙ passed (refusal bytes) (plan_of bytes) (refusal_zero bytes (sym k.refusal.ensures ∙ w.0.taken)))
           (λ w. ap view w.1 ∙ refused (refusal bytes) (plan_of bytes) (λ e. w.0.left (k.refusal.ensures ∙ e)))
           c.before.if1.branch);
     }

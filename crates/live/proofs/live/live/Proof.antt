@@ -4,15 +4,15 @@ use mathlib.Core.Path.{◌≡◌, refl, sym, ◌∙◌}
 use mathlib.Core.Option.{none}
 use borrow.Author.Rules.{rules}
 use Rattle.live.specs.Watching.{refusal}
-use Rattle.machine.proofs.Laws.{lent-delays}
-use Rattle.live.specs.Contracts.{Asked, seen}
-use Rattle.live.proofs.Alone.{still-advances}
-use Rattle.live.proofs.Lending.{refusal-zero, passed, asked, tells-refused, tells-stored, tells-broken, tells-clean}
+use Rattle.machine.proofs.Laws.{lent_delays}
+use Rattle.live.specs.Clauses.{Asked, seen}
+use Rattle.live.proofs.Alone.{still_advances}
+use Rattle.live.proofs.Lending.{refusal_zero, passed, asked, tells_refused, tells_stored, tells_broken, tells_clean}
 use Rattle.live.proofs.live.live.Statement.{statement}
 use Rattle.live.proofs.live.live.Tie as tie
 
 accepted : (c : tie.Else1) → (let a = c.before.before.args in refusal (seen a.watch) a.kind a.operand ≡ none)
-accepted c = let a = c.before.before.args in refusal-zero a.watch a.kind a.operand (sym c.before.refused.ensures ∙ c.if1.false)
+accepted c = let a = c.before.before.args in refusal_zero a.watch a.kind a.operand (sym c.before.refused.ensures ∙ c.if1.false)
 
 refused-requires : tie.Need-refused-requires
 refused-requires c κs = search rules
@@ -20,13 +20,13 @@ refused-requires c κs = search rules
 returns : tie.Need-returns
 returns c =
     let a = c.before.before.args in
-    tells-refused a.watch a.kind a.operand c.before.refused.ensures c.if1.true
+    tells_refused a.watch a.kind a.operand c.before.refused.ensures c.if1.true
 
 returns-2 : tie.Need-returns-2
 returns-2 c =
     let e = c.before.before in
     let a = e.before.before.args in
-    tells-stored a.watch a.kind a.operand (accepted e) c.if2.true
+    tells_stored a.watch a.kind a.operand (accepted e) c.if2.true
 
 -- a record that is judged
 admitted : (c : tie.Else2) → (let a = c.before.before.before.before.args in Asked a.watch.state a.kind a.operand)
@@ -39,7 +39,7 @@ is-still-requires : tie.Need-is-still-requires
 is-still-requires c κs =
     let k = c.before in
     let q = admitted k in
-    (q.room c.if3.true, lent-delays k.before.before.before.before.args.watch.state q.formed')
+    (q.room c.if3.true, lent_delays k.before.before.before.before.args.watch.state q.formed')
 
 ticked-requires : tie.Need-ticked-requires
 ticked-requires c κs = let t = c.before.before in (admitted t.before).room t.if3.true
@@ -53,8 +53,8 @@ returns-3 c =
     let k = t.before in
     let e = k.before.before in
     let a = e.before.before.args in
-    let still' = still-advances (admitted k) t.if3.true (sym i.is-still.ensures ∙ l.if4.true) refl in
-    rw c.ticked.ensures (tells-clean a.watch a.kind a.operand (accepted e) k.if2.false still' refl refl)
+    let still' = still_advances (admitted k) t.if3.true (sym i.is-still.ensures ∙ l.if4.true) refl in
+    rw c.ticked.ensures (tells_clean a.watch a.kind a.operand (accepted e) k.if2.false still' refl refl)
 
 judged-requires : tie.Need-judged-requires
 judged-requires c κs = admitted c.before
@@ -68,7 +68,7 @@ returns-4 c =
     let k = j.before.before in
     let e = k.before.before in
     let a = e.before.before.args in
-    rw c.breached.ensures (tells-broken a.watch a.kind a.operand (accepted e) k.if2.false j.judged.ensures c.before.if5.true)
+    rw c.breached.ensures (tells_broken a.watch a.kind a.operand (accepted e) k.if2.false j.judged.ensures c.before.if5.true)
 
 moved-requires : tie.Need-moved-requires
 moved-requires c κs = search rules
@@ -80,7 +80,7 @@ returns-5 c =
     let k = j.before.before in
     let e = k.before.before in
     let a = e.before.before.args in
-    rw c.moved.ensures (tells-clean a.watch a.kind a.operand (accepted e) k.if2.false j.judged.ensures i.if5.false refl)
+    rw c.moved.ensures (tells_clean a.watch a.kind a.operand (accepted e) k.if2.false j.judged.ensures i.if5.false refl)
 
 pub live-spec : {M : Type 1} → statement M
 live-spec =

@@ -19,15 +19,15 @@ is-rule-requires : tie.Need-is-rule-requires
 is-rule-requires c κs = search rules
 
 -- what the answer Yes to 12 says
-well-formed : (c : tie.Else1) → sound c.before.before.before.before.args.watch.state ≡ true
-well-formed c = sym c.before.formed.ensures ∙ not-false c.before.formed.result c.if1.false
+well_formed : (c : tie.Else1) → sound c.before.before.before.before.args.watch.state ≡ true
+well_formed c = sym c.before.formed.ensures ∙ not-false c.before.formed.result c.if1.false
 
 returns : tie.Need-returns
 unfolding refusal
 returns c =
     ⊎_elim
     (λ w. rw (← c.before.formed.ensures, not-true c.before.formed.result w.taken))
-    (λ w. rw (well-formed (record { before = c.before; if1 = w.0 }), ← w.1.ensures, not-true w.1.result w.2.taken))
+    (λ w. rw (well_formed (record { before = c.before; if1 = w.0 }), ← w.1.ensures, not-true w.1.result w.2.taken))
     c.if1.branch
 
 returns-2 : tie.Need-returns-2
@@ -35,7 +35,7 @@ unfolding refusal
 returns-2 c =
     let e = c.before.before in
     let r = c.before in
-    rw (well-formed e, sym r.is-rule.ensures ∙ not-false r.is-rule.result c.if2.false) e.before.before.before.record-refused.ensures
+    rw (well_formed e, sym r.is-rule.ensures ∙ not-false r.is-rule.result c.if2.false) e.before.before.before.record-refused.ensures
 
 pub refused-spec : {M : Type 1} → statement M
 refused-spec = tie.close (tie.spec record-refused-requires formed-requires is-rule-requires returns returns-2)

@@ -2,10 +2,10 @@
 use mathlib.Core.Path.{refl}
 use lib.ListN.{replicate}
 use borrow.Author.Rules.{rules}
-use Rattle.plan.proofs.Laws.{threads-view}
+use Rattle.plan.proofs.Laws.{threads_view}
 use Rattle.plan.specs.View as plans
-use Rattle.machine.proofs.Conditions.{all-dormant}
-use Rattle.machine.proofs.Keeping.{keeps-none}
+use Rattle.machine.proofs.Conditions.{all_dormant}
+use Rattle.machine.proofs.Keeping.{keeps_none}
 use Rattle.machine.proofs.Machine.start.Statement.{statement}
 use Rattle.machine.proofs.Machine.start.Tie as tie
 
@@ -29,8 +29,8 @@ returns c =
     let p = c.before.before.before.before.before.args.plan in
     record {
       plan' = refl;
-      seen = rw (threads-view p, all-dormant p.threads (replicate 16 (record { 0 = 0 })), c.before.before.before.before.none.ensures, c.before.before.before.none2.ensures.0, c.before.before.none3.ensures, c.before.none4.ensures, c.none5.ensures);
-      keeps = let h = c.before.before.before.none2 in keeps-none (plans.view p) h.result h.ensures.0 h.ensures.1;
+      seen = rw (threads_view p, all_dormant p.threads (replicate 16 (record { 0 = 0 })), c.before.before.before.before.none.ensures, c.before.before.before.none2.ensures.0, c.before.before.none3.ensures, c.before.none4.ensures, c.none5.ensures);
+      keeps = let h = c.before.before.before.none2 in keeps_none (plans.view p) h.result h.ensures.0 h.ensures.1;
     }
 
 pub start_spec : {M : Type 1} → statement M

@@ -10,15 +10,15 @@ use Rattle.lists.specs.Lists.{queued}
 use Rattle.clock.specs.declared.time.Tick.{Tick}
 use Rattle.clock.specs.declared.timers.Timers.{Timers}
 use Rattle.clock.specs.View.{view}
-use Rattle.clock.specs.Contracts.{soonest as soonestExpiry}
-use Rattle.machine.specs.Contracts.{soonest, nextEvent}
+use Rattle.clock.specs.Clauses.{soonest as soonest_expiry}
+use Rattle.machine.specs.Clauses.{soonest, next_event}
 use Rattle.machine.proofs.quiet.next_event.Statement.{statement}
 use Rattle.machine.proofs.quiet.next_event.Tie as tie
 
 -- by whether no arming is in progress
 by-arming : (delays : Queue) (wakes : List Tick) (timers : Timers) {b : Bool} → b ≡ is_complete (view timers).arming
-    → cond b (min (soonest wakes (queued delays)) (soonestExpiry (view timers).slots)) 0 ≡ nextEvent delays wakes timers
-by-arming delays wakes timers e = ap (λ b. cond b (min (soonest wakes (queued delays)) (soonestExpiry (view timers).slots)) 0) e
+    → cond b (min (soonest wakes (queued delays)) (soonest_expiry (view timers).slots)) 0 ≡ next_event delays wakes timers
+by-arming delays wakes timers e = ap (λ b. cond b (min (soonest wakes (queued delays)) (soonest_expiry (view timers).slots)) 0) e
 
 is-complete-requires : tie.Need-is-complete-requires
 is-complete-requires c κs = tt

@@ -11,10 +11,10 @@ is-armed-requires : tie.Need-is-armed-requires
 is-armed-requires c κs = search rules
 
 returns-2 : tie.Need-returns-2
-returns-2 c = rw (ne_eqb _ _ c.before.before.if1.false, ← c.before.is-armed.ensures, c.if2.true)
+returns-2 c = rw (ne_eqb _ _ c.before.before.if1.false, ← c.before.is_armed_lem.ensures, c.if2.true)
 
 returns-3 : tie.Need-returns-3
-returns-3 c = rw (ne_eqb _ _ c.before.before.if1.false, ← c.before.is-armed.ensures, c.if2.false)
+returns-3 c = rw (ne_eqb _ _ c.before.before.if1.false, ← c.before.is_armed_lem.ensures, c.if2.false)
 
 pub cancel-rule-spec : {M : Type 1} → statement M
 cancel-rule-spec = tie.close (tie.spec returns is-armed-requires returns-2 returns-3)

@@ -4,22 +4,22 @@ use mathlib.Core.List.{List, [], ◌∷◌}
 use Prim.Native.Nat.{ℕ, min, ◌≤◌}
 use native.Mathlib.Omega.{arith}
 use borrow.Author.Rules.{rules}
-use Rattle.model.specs.Formed.{lastWake}
+use Rattle.model.specs.Formed.{last_wake}
 use Rattle.lists.specs.Words.{nibbles}
 use Rattle.lists.proofs.Laws.{first, ended}
 use Rattle.clock.specs.declared.time.Tick.{Tick}
-use Rattle.machine.specs.Contracts.{soonest}
+use Rattle.machine.specs.Clauses.{soonest}
 use Rattle.machine.proofs.sleepers.soonest.Statement.{statement}
 use Rattle.machine.proofs.sleepers.soonest.Tie as tie
 
-at-most-last : (wakes : List Tick) (l : List ℕ) → soonest wakes l ≤ lastWake
+at-most-last : (wakes : List Tick) (l : List ℕ) → soonest wakes l ≤ last_wake
 at-most-last wakes [] = omega arith
 at-most-last wakes (t ∷ l) = omega (arith, at-most-last wakes l)
 
 -- no number kept is above the greatest, so that the least of it and of those left is the least of all
 abbrev invariant-loop : tie.invariant-loop
 invariant-loop wakes first₀ rest₀ left₀ kept rest left =
-    (left ≤ 16) × (kept.0 ≤ lastWake) × (min kept.0 (soonest wakes (nibbles left rest)) ≡ soonest wakes (nibbles left₀ rest₀))
+    (left ≤ 16) × (kept.0 ≤ last_wake) × (min kept.0 (soonest wakes (nibbles left rest)) ≡ soonest wakes (nibbles left₀ rest₀))
 
 abbrev decreases-loop : tie.decreases-loop
 decreases-loop wakes first₀ rest₀ left₀ kept rest left = left

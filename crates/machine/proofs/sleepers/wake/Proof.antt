@@ -11,7 +11,7 @@ use Rattle.lists.specs.Words.{nibbles}
 use Rattle.lists.specs.Lists.{queued}
 use Rattle.lists.proofs.Laws.{first, ended, length-queued}
 use Rattle.clock.specs.View.{number_at}
-use Rattle.machine.proofs.Woken.{Waking, waking-begin, waking-done, wakes-up, sleeps-on}
+use Rattle.machine.proofs.Woken.{Waking, waking_begin, waking_done, wakes_up, sleeps_on}
 use Rattle.machine.proofs.sleepers.wake.Statement.{statement}
 use Rattle.machine.proofs.sleepers.wake.Tie as tie
 
@@ -41,7 +41,7 @@ loop-holds c =
       s.requires,
       omega (arith, s.requires, length-queued c.before.none.result, ap length e),
       omega (arith, s.requires, length-queued c.none2.result, ap length w),
-      waking-begin s.args.t2 s.args.number.0 (nibbles d.count d.items) e w,
+      waking_begin s.args.t2 s.args.number.0 (nibbles d.count d.items) e w,
     )
 
 -- the sleeper whose turn it is, in front of those left
@@ -91,7 +91,7 @@ loop-again c =
       omega (arith, l.invariant.0, longer l.line c.before.push.result (l.rest % 16) c.before.push.ensures, k.loop-test.true),
       omega (arith, l.invariant.1),
       omega (arith, l.invariant.2, longer l.woken c.push2.result (l.rest % 16) c.push2.ensures, k.loop-test.true),
-      wakes-up s.args.t2 s.args.number.0 (turned k) (eq-eqb (number_at s.args.t2 (l.rest % 16)) s.args.number.0 i.if1.true) c.before.before.placed.ensures c.before.push.ensures c.push2.ensures,
+      wakes_up s.args.t2 s.args.number.0 (turned k) (eq-eqb (number_at s.args.t2 (l.rest % 16)) s.args.number.0 i.if1.true) c.before.before.placed.ensures c.before.push.ensures c.push2.ensures,
     )
 
 push-requires-3 : tie.Need-push-requires-3 invariant-loop decreases-loop
@@ -109,14 +109,14 @@ loop-again-2 c =
       omega (arith, l.invariant.0),
       omega (arith, l.invariant.1, longer l.asleep c.push3.result (l.rest % 16) c.push3.ensures, k.loop-test.true),
       omega (arith, l.invariant.2),
-      sleeps-on s.args.t2 s.args.number.0 (turned k) (ne_eqb (number_at s.args.t2 (l.rest % 16)) s.args.number.0 i.if1.false) c.push3.ensures,
+      sleeps_on s.args.t2 s.args.number.0 (turned k) (ne_eqb (number_at s.args.t2 (l.rest % 16)) s.args.number.0 i.if1.false) c.push3.ensures,
     )
 
 returns : tie.Need-returns invariant-loop decreases-loop
 returns c =
     let l = c.before.loop in
     let s = c.before.before.before.before in
-    waking-done s.args.t2 s.args.number.0 {d = s.args.delays} (record { slots = l.states; queue = l.line; delays = l.asleep; woken = l.woken }) (ended l.left l.rest c.loop-test.false) l.invariant.3
+    waking_done s.args.t2 s.args.number.0 {d = s.args.delays} (record { slots = l.states; queue = l.line; delays = l.asleep; woken = l.woken }) (ended l.left l.rest c.loop-test.false) l.invariant.3
 
 pub wake-spec : {M : Type 1} → statement M
 wake-spec =

@@ -4,15 +4,15 @@ use Prim.Native.Nat.{◌-◌, ◌≤◌}
 use native.Mathlib.Omega.{arith}
 use borrow.Author.Rules.{rules}
 use lib.ListN.{length, length-set}
-use Rattle.plan.specs.Bytes.{threadCount, base_at}
-use Rattle.model.proofs.Loops.{Filled, fill-begin, stored}
+use Rattle.plan.specs.Bytes.{thread_count, base_at}
+use Rattle.model.proofs.Loops.{Filled, fill_begin, stored}
 use Rattle.plan.proofs.Entries.{filled}
 use Rattle.plan.proofs.bytes.bases_of.Statement.{statement}
 use Rattle.plan.proofs.bytes.bases_of.Tie as tie
 
 abbrev invariant-loop : tie.invariant-loop
 invariant-loop bytes threads bases₀ t₀ bases t =
-    (t ≤ threads) × (length bases ≡ 16) × Filled (base_at bytes) (threadCount bytes) t bases
+    (t ≤ threads) × (length bases ≡ 16) × Filled (base_at bytes) (thread_count bytes) t bases
 
 abbrev decreases-loop : tie.decreases-loop
 decreases-loop bytes threads bases₀ t₀ bases t = threads - t
@@ -23,7 +23,7 @@ byte-at-requires c κs = search rules
 loop-holds : tie.Need-loop-init invariant-loop decreases-loop
 loop-holds c =
     let bytes = c.before.before.args.bytes.now in
-    (omega arith, refl, fill-begin (base_at bytes) (threadCount bytes))
+    (omega arith, refl, fill_begin (base_at bytes) (thread_count bytes))
 
 add-bases : tie.Need-overflow-add-bases invariant-loop decreases-loop
 add-bases c = search rules
@@ -44,13 +44,13 @@ loop-again : tie.Need-loop-preserved invariant-loop decreases-loop
 loop-again c =
     let k = c.before.before in
     let bytes = k.before.before.before.args.bytes.now in
-    (omega arith, simp length-set k.loop.invariant.1, stored (base_at bytes) (threadCount bytes) k.loop.t k.loop.bases _ (omega arith) (omega arith) refl k.loop.invariant.2)
+    (omega arith, simp length-set k.loop.invariant.1, stored (base_at bytes) (thread_count bytes) k.loop.t k.loop.bases _ (omega arith) (omega arith) refl k.loop.invariant.2)
 
 returns : tie.Need-returns invariant-loop decreases-loop
 returns c =
     let k = c.before in
     let bytes = k.before.before.before.args.bytes.now in
-    filled (base_at bytes) (threadCount bytes) k.loop.t k.loop.bases (omega arith) (omega arith) k.loop.invariant.2
+    filled (base_at bytes) (thread_count bytes) k.loop.t k.loop.bases (omega arith) (omega arith) k.loop.invariant.2
 
 pub bases-of-spec : {M : Type 1} → statement M
 bases-of-spec =

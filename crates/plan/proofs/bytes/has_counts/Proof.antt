@@ -20,7 +20,7 @@ in-range-requires c κs = search rules
 returns-2 : tie.Need-returns-2
 returns-2 c =
     let k = c.before.before.before in
-    rw (le-leb 2 (length k.before.before.args.bytes.now) k.if1.false, ← c.before.before.byte_at.ensures, ← c.before.byte-at2.ensures) c.in-range.ensures
+    rw (le-leb 2 (length k.before.before.args.bytes.now) k.if1.false, ← c.before.before.byte_at.ensures, ← c.before.byte-at2.ensures) c.in_range_lem.ensures
 
 pub has-counts-spec : {M : Type 1} → statement M
 has-counts-spec =

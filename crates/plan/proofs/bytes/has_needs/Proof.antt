@@ -2,8 +2,8 @@
 use mathlib.Core.Path.{ap, ap₂, ◌∙◌}
 use borrow.Author.Rules.{rules}
 use Rattle.model.specs.Searches.{all}
-use Rattle.plan.specs.Bytes.{sectionCount, needsWithin}
-use Rattle.plan.specs.View.{inUse}
+use Rattle.plan.specs.Bytes.{section_count, needs_within}
+use Rattle.plan.specs.View.{in_use}
 use Rattle.plan.proofs.bytes.has_needs.Statement.{statement}
 use Rattle.plan.proofs.bytes.has_needs.Tie as tie
 
@@ -22,10 +22,10 @@ needs-pass-requires c κs = search rules
 returns : tie.Need-returns
 returns c =
     let k = c.before.before.before in
-    let s = sectionCount k.before.before.args.bytes.now in
+    let s = section_count k.before.before.args.bytes.now in
     c.needs-pass.ensures
-    ∙ ap₂ (λ n s. all (needsWithin s) (inUse n k.needs-of.result)) c.before.before.byte_at.ensures c.before.byte-at2.ensures
-    ∙ ap (all (needsWithin s)) k.needs-of.ensures
+    ∙ ap₂ (λ n s. all (needs_within s) (in_use n k.needs-of.result)) c.before.before.byte_at.ensures c.before.byte-at2.ensures
+    ∙ ap (all (needs_within s)) k.needs-of.ensures
 
 pub has-needs-spec : {M : Type 1} → statement M
 has-needs-spec =

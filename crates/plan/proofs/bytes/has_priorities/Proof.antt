@@ -2,8 +2,8 @@
 use mathlib.Core.Path.{ap, ◌∙◌}
 use borrow.Author.Rules.{rules}
 use Rattle.model.specs.Searches.{all}
-use Rattle.plan.specs.Bytes.{isPriority}
-use Rattle.plan.specs.View.{inUse}
+use Rattle.plan.specs.Bytes.{is_priority}
+use Rattle.plan.specs.View.{in_use}
 use Rattle.plan.proofs.bytes.has_priorities.Statement.{statement}
 use Rattle.plan.proofs.bytes.has_priorities.Tie as tie
 
@@ -19,7 +19,7 @@ bases-pass-requires c κs = search rules
 returns : tie.Need-returns
 returns c =
     let bases = c.before.before.bases-of.result in
-    c.bases-pass.ensures ∙ ap (λ n. all isPriority (inUse n bases)) c.before.byte_at.ensures ∙ ap (all isPriority) c.before.before.bases-of.ensures
+    c.bases-pass.ensures ∙ ap (λ n. all is_priority (in_use n bases)) c.before.byte_at.ensures ∙ ap (all is_priority) c.before.before.bases-of.ensures
 
 pub has-priorities-spec : {M : Type 1} → statement M
 has-priorities-spec =

@@ -4,16 +4,16 @@ use Prim.Native.Nat.{◌+◌, ◌*◌, ◌-◌, ◌≤◌}
 use native.Mathlib.Omega.{arith}
 use borrow.Author.Rules.{rules}
 use lib.ListN.{length, length-set}
-use Rattle.plan.specs.Bytes.{threadCount, needsAt}
+use Rattle.plan.specs.Bytes.{thread_count, needs_at}
 use Rattle.plan.specs.Words.{word}
-use Rattle.model.proofs.Loops.{Filled, fill-begin, stored}
+use Rattle.model.proofs.Loops.{Filled, fill_begin, stored}
 use Rattle.plan.proofs.Entries.{filled}
 use Rattle.plan.proofs.bytes.needs_of.Statement.{statement}
 use Rattle.plan.proofs.bytes.needs_of.Tie as tie
 
 abbrev invariant-loop : tie.invariant-loop
 invariant-loop bytes threads needs₀ t₀ rules t =
-    (t ≤ threads) × (length rules ≡ 16) × Filled (needsAt bytes) (threadCount bytes) t rules
+    (t ≤ threads) × (length rules ≡ 16) × Filled (needs_at bytes) (thread_count bytes) t rules
 
 abbrev decreases-loop : tie.decreases-loop
 decreases-loop bytes threads needs₀ t₀ rules t = threads - t
@@ -24,7 +24,7 @@ byte-at-requires c κs = search rules
 loop-holds : tie.Need-loop-init invariant-loop decreases-loop
 loop-holds c =
     let bytes = c.before.before.args.bytes.now in
-    (omega arith, refl, fill-begin (needsAt bytes) (threadCount bytes))
+    (omega arith, refl, fill_begin (needs_at bytes) (thread_count bytes))
 
 add-word-at : tie.Need-overflow-add-word-at invariant-loop decreases-loop
 add-word-at c = search rules
@@ -54,14 +54,14 @@ loop-again : tie.Need-loop-preserved invariant-loop decreases-loop
 loop-again c =
     let k = c.before.before in
     let bytes = k.before.before.before.args.bytes.now in
-    let e : c.word_at.result ≡ needsAt bytes k.loop.t = c.word_at.ensures ∙ ap (λ n. word bytes (2 + n + 2 * k.loop.t)) k.before.byte_at.ensures in
-    (omega arith, simp length-set k.loop.invariant.1, stored (needsAt bytes) (threadCount bytes) k.loop.t k.loop.needs _ (omega arith) (omega arith) e k.loop.invariant.2)
+    let e : c.word_at.result ≡ needs_at bytes k.loop.t = c.word_at.ensures ∙ ap (λ n. word bytes (2 + n + 2 * k.loop.t)) k.before.byte_at.ensures in
+    (omega arith, simp length-set k.loop.invariant.1, stored (needs_at bytes) (thread_count bytes) k.loop.t k.loop.needs _ (omega arith) (omega arith) e k.loop.invariant.2)
 
 returns : tie.Need-returns invariant-loop decreases-loop
 returns c =
     let k = c.before in
     let bytes = k.before.before.before.args.bytes.now in
-    filled (needsAt bytes) (threadCount bytes) k.loop.t k.loop.needs (omega arith) (omega arith) k.loop.invariant.2
+    filled (needs_at bytes) (thread_count bytes) k.loop.t k.loop.needs (omega arith) (omega arith) k.loop.invariant.2
 
 pub needs-of-spec : {M : Type 1} → statement M
 needs-of-spec =

@@ -1,8 +1,8 @@
 -- `read` meets its contract: bytes that nothing refuses have the answer Yes to questions 1 and 2.
 use mathlib.Core.Path.{◌≡◌, ap, ◌∙◌}
 use native.Mathlib.Omega.{arith}
-use Rattle.plan.specs.Bytes.{threadCount, sectionCount, Whole}
-use Rattle.plan.specs.View.{inUse}
+use Rattle.plan.specs.Bytes.{thread_count, section_count, Whole}
+use Rattle.plan.specs.View.{in_use}
 use Rattle.plan.proofs.Answers.{accepted, whole}
 use Rattle.plan.proofs.bytes.read.Statement.{statement}
 use Rattle.plan.proofs.bytes.read.Tie as tie
@@ -33,10 +33,10 @@ returns c =
     let k = c.before.before.before in
     let bytes = k.before.before.args.bytes.now in
     let w = readable k.before.before in
-    let threads : k.byte_at.result ≡ threadCount bytes = k.byte_at.ensures in
-    let sections : c.before.before.byte-at2.result ≡ sectionCount bytes = c.before.before.byte-at2.ensures in
-    let bases = ap (λ n. inUse n c.before.bases-of.result) threads ∙ c.before.bases-of.ensures in
-    let needs = ap (λ n. inUse n c.needs-of.result) threads ∙ c.needs-of.ensures in
+    let threads : k.byte_at.result ≡ thread_count bytes = k.byte_at.ensures in
+    let sections : c.before.before.byte-at2.result ≡ section_count bytes = c.before.before.byte-at2.ensures in
+    let bases = ap (λ n. in_use n c.before.bases-of.result) threads ∙ c.before.bases-of.ensures in
+    let needs = ap (λ n. in_use n c.needs-of.result) threads ∙ c.needs-of.ensures in
     record {
       fits = record { threads = omega arith; sections = omega arith };
       seen = λ i. record { sections = sections i; bases = bases i; needs = needs i };

@@ -3,23 +3,23 @@ use mathlib.Core.Path.{◌≡◌, sym, ◌∙◌}
 use mathlib.Core.Bool.{true}
 use borrow.Author.Rules.{rules}
 use borrow.Author.Tests.{not-true, not-false}
-use Rattle.model.proofs.Tests.{from-true}
-use Rattle.plan.specs.Bytes.{hasCounts, hasLength, hasPriorities, questions, refusal, Whole}
-use Rattle.plan.proofs.Answers.{has-two, whole}
+use Rattle.model.proofs.Tests.{from_true}
+use Rattle.plan.specs.Bytes.{has_counts, has_length, has_priorities, questions, refusal, Whole}
+use Rattle.plan.proofs.Answers.{has_two, whole}
 use Rattle.plan.proofs.bytes.refusal.Statement.{statement}
 use Rattle.plan.proofs.bytes.refusal.Tie as tie
 
-counts : (c : tie.Else1) → hasCounts c.before.before.before.args.bytes.now ≡ true
+counts : (c : tie.Else1) → has_counts c.before.before.before.args.bytes.now ≡ true
 counts c = sym c.before.has-counts.ensures ∙ not-false c.before.has-counts.result c.if1.false
 
-size : (c : tie.Else2) → hasLength c.before.before.before.before.before.args.bytes.now ≡ true
+size : (c : tie.Else2) → has_length c.before.before.before.before.before.args.bytes.now ≡ true
 size c = sym c.before.has-length.ensures ∙ not-false c.before.has-length.result c.if2.false
 
-priorities : (c : tie.Else3) → hasPriorities c.before.before.before.before.before.before.before.args.bytes.now ≡ true
+priorities : (c : tie.Else3) → has_priorities c.before.before.before.before.before.before.before.args.bytes.now ≡ true
 priorities c = sym c.before.has-priorities.ensures ∙ not-false c.before.has-priorities.result c.if3.false
 
 sized : (c : tie.Else2) → Whole c.before.before.before.before.before.args.bytes.now
-sized c = whole _ (from-true _ (counts c.before.before)) (from-true _ (size c))
+sized c = whole _ (from_true _ (counts c.before.before)) (from_true _ (size c))
 
 has-counts-requires : tie.Need-has-counts-requires
 has-counts-requires c κs = search rules
@@ -29,7 +29,7 @@ unfolding refusal questions
 returns c = rw (← c.before.has-counts.ensures, not-true c.before.has-counts.result c.if1.true)
 
 has-length-requires : tie.Need-has-length-requires
-has-length-requires c κs = has-two c.before.before.before.args.bytes.now (from-true _ (counts c))
+has-length-requires c κs = has_two c.before.before.before.args.bytes.now (from_true _ (counts c))
 
 returns-2 : tie.Need-returns-2
 unfolding refusal questions

@@ -12,14 +12,14 @@ use Rattle.model.specs.Searches.{all, up_to}
 use Rattle.model.specs.Plan.{bit, ceiling}
 use Rattle.model.proofs.Tests.{and_left, and_right}
 use Rattle.plan.specs.declared.Plan.{Plan}
-use Rattle.plan.specs.View.{baseIn, mayTakeIn, view}
-use Rattle.model.proofs.Loops.{TopLeft, top-begin, raised, topped, listed, length-listed}
+use Rattle.plan.specs.View.{base_in, may_take_in, view}
+use Rattle.model.proofs.Loops.{TopLeft, top_begin, raised, topped, listed, length-listed}
 use Rattle.plan.proofs.ceilings.ceilings.Statement.{statement}
 use Rattle.plan.proofs.ceilings.ceilings.Tie as tie
 
 abbrev invariant-loop : tie.invariant-loop
 invariant-loop threads bases rules tops₀ t₀ tops t =
-    (t ≤ threads) × (length tops ≡ 16) × ((s : ℕ) → s < 16 → TopLeft (λ k. mayTakeIn threads rules k s) (baseIn threads bases) threads t (get_or tops s 0))
+    (t ≤ threads) × (length tops ≡ 16) × ((s : ℕ) → s < 16 → TopLeft (λ k. may_take_in threads rules k s) (base_in threads bases) threads t (get_or tops s 0))
 
 abbrev decreases-loop : tie.decreases-loop
 decreases-loop threads bases rules tops₀ t₀ tops t = threads - t
@@ -38,24 +38,24 @@ abbrev top : Plan → (t : ℕ) (tops : List ℕ) (section : ℕ) → ℕ
 top p t tops s = cond (bit (get_or p.needs t 0) s) (max (get_or tops s 0) (get_or p.bases t 0)) (get_or tops s 0)
 
 counted : (p : Plan) (t : ℕ) (tops next : List ℕ) → t < p.threads → next ≡ map (top p t tops) (up_to 16) → (s : ℕ) → s < 16
-    → TopLeft (λ k. mayTakeIn p.threads p.needs k s) (baseIn p.threads p.bases) p.threads t (get_or tops s 0)
-    → TopLeft (λ k. mayTakeIn p.threads p.needs k s) (baseIn p.threads p.bases) p.threads (t + 1) (get_or next s 0)
+    → TopLeft (λ k. may_take_in p.threads p.needs k s) (base_in p.threads p.bases) p.threads t (get_or tops s 0)
+    → TopLeft (λ k. may_take_in p.threads p.needs k s) (base_in p.threads p.bases) p.threads (t + 1) (get_or next s 0)
 counted p t tops next h e s b inv =
     let n = p.threads in
-    let f : get_or next s 0 ≡ cond (mayTakeIn n p.needs t s) (max (get_or tops s 0) (baseIn n p.bases t)) (get_or tops s 0) =
+    let f : get_or next s 0 ≡ cond (may_take_in n p.needs t s) (max (get_or tops s 0) (base_in n p.bases t)) (get_or tops s 0) =
     rw (listed (λ j. get_or p.bases j 0) n t 0 h, listed (λ j. get_or p.needs j 0) n t 0 h) (ap (λ l. get_or l s 0) e ∙ listed (top p t tops) 16 s 0 b) in
-    raised (λ j. mayTakeIn n p.needs j s) (baseIn n p.bases) n t (get_or tops s 0) (get_or next s 0) h f inv
+    raised (λ j. may_take_in n p.needs j s) (base_in n p.bases) n t (get_or tops s 0) (get_or next s 0) h f inv
 
 -- behind the last thread it is the ceiling
-found : (p : Plan) (t n s : ℕ) → p.threads ≤ t → TopLeft (λ k. mayTakeIn p.threads p.needs k s) (baseIn p.threads p.bases) p.threads t n → n ≡ ceiling (view p) s
+found : (p : Plan) (t n s : ℕ) → p.threads ≤ t → TopLeft (λ k. may_take_in p.threads p.needs k s) (base_in p.threads p.bases) p.threads t n → n ≡ ceiling (view p) s
 unfolding ceiling
 found p t n s h inv =
-    rw (length-listed (λ j. get_or p.bases j 0) p.threads) (topped (λ j. mayTakeIn p.threads p.needs j s) (baseIn p.threads p.bases) p.threads t n h inv)
+    rw (length-listed (λ j. get_or p.bases j 0) p.threads) (topped (λ j. may_take_in p.threads p.needs j s) (base_in p.threads p.bases) p.threads t n h inv)
 
 loop-holds : tie.Need-loop-init invariant-loop decreases-loop
 loop-holds c =
     let p = c.before.before.args.plan in
-    (omega arith, refl, λ s h. subst (λ top. TopLeft (λ k. mayTakeIn p.threads p.needs k s) (baseIn p.threads p.bases) p.threads 0 top) (sym (zero-at zeros tt s)) (top-begin (λ k. mayTakeIn p.threads p.needs k s) (baseIn p.threads p.bases) p.threads))
+    (omega arith, refl, λ s h. subst (λ top. TopLeft (λ k. may_take_in p.threads p.needs k s) (base_in p.threads p.bases) p.threads 0 top) (sym (zero-at zeros tt s)) (top_begin (λ k. may_take_in p.threads p.needs k s) (base_in p.threads p.bases) p.threads))
 
 array-read-raised : tie.Need-array-read-raised invariant-loop decreases-loop
 array-read-raised c = search rules

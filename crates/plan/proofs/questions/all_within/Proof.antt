@@ -6,19 +6,19 @@ use native.Mathlib.Omega.{arith}
 use borrow.Author.Rules.{rules}
 use borrow.Author.Tests.{not-true, not-false}
 use lib.ListN.{get_or}
-use Rattle.plan.specs.Bytes.{needsWithin}
-use Rattle.model.proofs.Loops.{AllPass, all-begin, pass_kept, pass-lost, all_asked}
+use Rattle.plan.specs.Bytes.{needs_within}
+use Rattle.model.proofs.Loops.{AllPass, all_begin, pass_kept, pass_lost, all_asked}
 use Rattle.plan.proofs.questions.all_within.Statement.{statement}
 use Rattle.plan.proofs.questions.all_within.Tie as tie
 
 abbrev invariant-loop : tie.invariant-loop
-invariant-loop sections rules within₀ t₀ within t = (t ≤ 16) × AllPass (needsWithin sections) (λ k. get_or rules k 0) 16 t within
+invariant-loop sections rules within₀ t₀ within t = (t ≤ 16) × AllPass (needs_within sections) (λ k. get_or rules k 0) 16 t within
 
 abbrev decreases-loop : tie.decreases-loop
 decreases-loop sections rules within₀ t₀ within t = 16 - t
 
 loop-holds : tie.Need-loop-init invariant-loop decreases-loop
-loop-holds c = (omega arith, all-begin (needsWithin c.args.sections) (λ k. get_or c.args.t2 k 0) 16)
+loop-holds c = (omega arith, all_begin (needs_within c.args.sections) (λ k. get_or c.args.t2 k 0) 16)
 
 mul-needs-within : tie.Need-overflow-mul-needs-within invariant-loop decreases-loop
 mul-needs-within c = search rules
@@ -40,8 +40,8 @@ loop-again c =
     let p = c.before.needs-within in
     let k = c.before.before.before in
     let entry : ℕ → ℕ = λ j. get_or k.before.args.t2 j 0 in
-    let lost = pass-lost (needsWithin k.before.args.sections) entry 16 k.loop.t k.loop.within (omega arith) k.loop.invariant.1 c.if1.within in
-    let kept = pass_kept (needsWithin k.before.args.sections) entry 16 k.loop.t k.loop.within (omega arith) k.loop.invariant.1 c.if1.within in (
+    let lost = pass_lost (needs_within k.before.args.sections) entry 16 k.loop.t k.loop.within (omega arith) k.loop.invariant.1 c.if1.within in
+    let kept = pass_kept (needs_within k.before.args.sections) entry 16 k.loop.t k.loop.within (omega arith) k.loop.invariant.1 c.if1.within in (
       omega arith,
       ⊎_elim
           (λ w. lost w.1 (sym p.ensures ∙ not-true p.result w.0.taken))
@@ -52,7 +52,7 @@ loop-again c =
 returns : tie.Need-returns invariant-loop decreases-loop
 returns c =
     let k = c.before in
-    all_asked (needsWithin k.before.args.sections) (λ j. get_or k.before.args.t2 j 0) 16 k.loop.t k.loop.within (omega arith) k.loop.invariant.1
+    all_asked (needs_within k.before.args.sections) (λ j. get_or k.before.args.t2 j 0) 16 k.loop.t k.loop.within (omega arith) k.loop.invariant.1
 
 pub all-within-spec : {M : Type 1} → statement M
 all-within-spec =

@@ -5,19 +5,19 @@ use native.Mathlib.Omega.{arith}
 use borrow.Author.Rules.{rules}
 use borrow.Author.Tests.{not-true, not-false}
 use lib.ListN.{get_or}
-use Rattle.plan.specs.Bytes.{isPriority}
-use Rattle.model.proofs.Loops.{AllLeft, all-begin, passed, failed, all-passed}
+use Rattle.plan.specs.Bytes.{is_priority}
+use Rattle.model.proofs.Loops.{AllLeft, all_begin, passed, failed, all_passed}
 use Rattle.plan.proofs.questions.bases_pass.Statement.{statement}
 use Rattle.plan.proofs.questions.bases_pass.Tie as tie
 
 abbrev invariant-loop : tie.invariant-loop
-invariant-loop threads bases t₀ t = (t ≤ threads) × AllLeft isPriority (λ k. get_or bases k 0) threads t
+invariant-loop threads bases t₀ t = (t ≤ threads) × AllLeft is_priority (λ k. get_or bases k 0) threads t
 
 abbrev decreases-loop : tie.decreases-loop
 decreases-loop threads bases t₀ t = threads - t
 
 loop-holds : tie.Need-loop-init invariant-loop decreases-loop
-loop-holds c = (omega arith, all-begin isPriority (λ k. get_or c.args.t2 k 0) c.args.threads)
+loop-holds c = (omega arith, all_begin is_priority (λ k. get_or c.args.t2 k 0) c.args.threads)
 
 array-read-is-priority : tie.Need-array-read-is-priority invariant-loop decreases-loop
 array-read-is-priority c = search rules
@@ -29,7 +29,7 @@ returns : tie.Need-returns invariant-loop decreases-loop
 returns c =
     let k = c.before.before.before in
     let p = c.before.is-priority in
-    failed isPriority (λ j. get_or k.before.args.t2 j 0) k.before.args.threads k.loop.t (omega arith) k.loop.invariant.1 (sym p.ensures ∙ not-true p.result c.if1.true)
+    failed is_priority (λ j. get_or k.before.args.t2 j 0) k.before.args.threads k.loop.t (omega arith) k.loop.invariant.1 (sym p.ensures ∙ not-true p.result c.if1.true)
 
 add-t : tie.Need-overflow-add-t invariant-loop decreases-loop
 add-t c = search rules
@@ -41,12 +41,12 @@ loop-again : tie.Need-loop-preserved invariant-loop decreases-loop
 loop-again c =
     let k = c.before.before.before in
     let p = c.before.is-priority in
-    (omega arith, passed isPriority (λ j. get_or k.before.args.t2 j 0) k.before.args.threads k.loop.t (omega arith) k.loop.invariant.1 (sym p.ensures ∙ not-false p.result c.if1.false))
+    (omega arith, passed is_priority (λ j. get_or k.before.args.t2 j 0) k.before.args.threads k.loop.t (omega arith) k.loop.invariant.1 (sym p.ensures ∙ not-false p.result c.if1.false))
 
 returns-2 : tie.Need-returns-2 invariant-loop decreases-loop
 returns-2 c =
     let k = c.before in
-    all-passed isPriority (λ j. get_or k.before.args.t2 j 0) k.before.args.threads k.loop.t (omega arith) k.loop.invariant.1
+    all_passed is_priority (λ j. get_or k.before.args.t2 j 0) k.before.args.threads k.loop.t (omega arith) k.loop.invariant.1
 
 pub bases-pass-spec : {M : Type 1} → statement M
 bases-pass-spec =

@@ -5,19 +5,19 @@ use native.Mathlib.Omega.{arith}
 use borrow.Author.Rules.{rules}
 use borrow.Author.Tests.{not-true, not-false}
 use lib.ListN.{get_or}
-use Rattle.plan.specs.Bytes.{needsWithin}
-use Rattle.model.proofs.Loops.{AllLeft, all-begin, passed, failed, all-passed}
+use Rattle.plan.specs.Bytes.{needs_within}
+use Rattle.model.proofs.Loops.{AllLeft, all_begin, passed, failed, all_passed}
 use Rattle.plan.proofs.questions.needs_pass.Statement.{statement}
 use Rattle.plan.proofs.questions.needs_pass.Tie as tie
 
 abbrev invariant-loop : tie.invariant-loop
-invariant-loop threads sections rules t₀ t = (t ≤ threads) × AllLeft (needsWithin sections) (λ k. get_or rules k 0) threads t
+invariant-loop threads sections rules t₀ t = (t ≤ threads) × AllLeft (needs_within sections) (λ k. get_or rules k 0) threads t
 
 abbrev decreases-loop : tie.decreases-loop
 decreases-loop threads sections rules t₀ t = threads - t
 
 loop-holds : tie.Need-loop-init invariant-loop decreases-loop
-loop-holds c = (omega arith, all-begin (needsWithin c.args.sections) (λ k. get_or c.args.t3 k 0) c.args.threads)
+loop-holds c = (omega arith, all_begin (needs_within c.args.sections) (λ k. get_or c.args.t3 k 0) c.args.threads)
 
 mul-needs-within : tie.Need-overflow-mul-needs-within invariant-loop decreases-loop
 mul-needs-within c = search rules
@@ -33,7 +33,7 @@ returns c =
     let k = c.before.before.before in
     let a = k.before.args in
     let p = c.before.needs-within in
-    failed (needsWithin a.sections) (λ j. get_or a.t3 j 0) a.threads k.loop.t (omega arith) k.loop.invariant.1 (sym p.ensures ∙ not-true p.result c.if1.true)
+    failed (needs_within a.sections) (λ j. get_or a.t3 j 0) a.threads k.loop.t (omega arith) k.loop.invariant.1 (sym p.ensures ∙ not-true p.result c.if1.true)
 
 add-t : tie.Need-overflow-add-t invariant-loop decreases-loop
 add-t c = search rules
@@ -46,13 +46,13 @@ loop-again c =
     let k = c.before.before.before in
     let a = k.before.args in
     let p = c.before.needs-within in
-    (omega arith, passed (needsWithin a.sections) (λ j. get_or a.t3 j 0) a.threads k.loop.t (omega arith) k.loop.invariant.1 (sym p.ensures ∙ not-false p.result c.if1.false))
+    (omega arith, passed (needs_within a.sections) (λ j. get_or a.t3 j 0) a.threads k.loop.t (omega arith) k.loop.invariant.1 (sym p.ensures ∙ not-false p.result c.if1.false))
 
 returns-2 : tie.Need-returns-2 invariant-loop decreases-loop
 returns-2 c =
     let k = c.before in
     let a = k.before.args in
-    all-passed (needsWithin a.sections) (λ j. get_or a.t3 j 0) a.threads k.loop.t (omega arith) k.loop.invariant.1
+    all_passed (needs_within a.sections) (λ j. get_or a.t3 j 0) a.threads k.loop.t (omega arith) k.loop.invariant.1
 
 pub needs-pass-spec : {M : Type 1} → statement M
 needs-pass-spec =

@@ -1,6 +1,6 @@
 -- `needs_within` meets its contract: a shift by S leaves the bits at S and above.
 use borrow.Author.Rules.{rules}
-use Rattle.plan.proofs.Bits.{shifted-out}
+use Rattle.plan.proofs.Bits.{shifted_out}
 use Rattle.plan.proofs.questions.needs_within.Statement.{statement}
 use Rattle.plan.proofs.questions.needs_within.Tie as tie
 
@@ -11,7 +11,7 @@ shr-above : tie.Need-overflow-shr-above
 shr-above c = search rules
 
 returns : tie.Need-returns
-returns c = shifted-out c.args.needs c.args.sections
+returns c = shifted_out c.args.needs c.args.sections
 
 pub needs-within-spec : {M : Type 1} → statement M
 needs-within-spec = tie.close (tie.spec cast-above shr-above returns)

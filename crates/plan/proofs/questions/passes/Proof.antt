@@ -1,4 +1,4 @@
--- `passes` meets its contract: the counts, then the bases, then the needs, as `valid-view` splits the definition. Where all sixteen entries pass, so do
+-- `passes` meets its contract: the counts, then the bases, then the needs, as `valid_view` splits the definition. Where all sixteen entries pass, so do
 -- those in use.
 use mathlib.Core.Path.{◌≡◌, sym, ◌∙◌}
 use mathlib.Core.Logic.{⊎_elim}
@@ -9,31 +9,31 @@ use borrow.Author.Rules.{rules}
 use borrow.Author.Tests.{not-true, not-false}
 use lib.ListN.{get_or}
 use Rattle.model.specs.Searches.{all}
-use Rattle.model.proofs.Tests.{from-true}
-use Rattle.plan.specs.Bytes.{in_range, isPriority, needsWithin}
-use Rattle.plan.specs.View.{inUse}
-use Rattle.model.proofs.Loops.{all-of-more}
-use Rattle.plan.proofs.Answers.{in-range}
-use Rattle.plan.proofs.Entries.{valid-view}
+use Rattle.model.proofs.Tests.{from_true}
+use Rattle.plan.specs.Bytes.{in_range, is_priority, needs_within}
+use Rattle.plan.specs.View.{in_use}
+use Rattle.model.proofs.Loops.{all_of_more}
+use Rattle.plan.proofs.Answers.{in_range_lem}
+use Rattle.plan.proofs.Entries.{valid_view}
 use Rattle.plan.proofs.questions.passes.Statement.{statement}
 use Rattle.plan.proofs.questions.passes.Tie as tie
 
 counted : (c : tie.Else1) → in_range c.before.before.args.plan.threads c.before.before.args.plan.sections ≡ true
-counted c = sym c.before.in-range.ensures ∙ not-false c.before.in-range.result c.if1.false
+counted c = sym c.before.in_range_lem.ensures ∙ not-false c.before.in_range_lem.result c.if1.false
 
 ranged : (c : tie.Else1) → (c.before.before.args.plan.threads ≤ 16) × (c.before.before.args.plan.sections ≤ 16)
 ranged c =
     let p = c.before.before.args.plan in
-    in-range p.threads p.sections (from-true _ (counted c))
+    in_range_lem p.threads p.sections (from_true _ (counted c))
 
-prioritised : (c : tie.Joined2) → all isPriority (inUse c.before.before.before.before.before.args.plan.threads c.before.before.before.before.before.args.plan.bases) ≡ true
+prioritised : (c : tie.Joined2) → all is_priority (in_use c.before.before.before.before.before.args.plan.threads c.before.before.before.before.before.args.plan.bases) ≡ true
 prioritised c =
     let f = c.before.before.before in
     let p = f.before.before.args.plan in
     let a = c.before.all-priorities in
     ⊎_elim
     (λ w. sym w.1.ensures ∙ not-false w.1.result w.2.left)
-    (λ w. all-of-more isPriority (λ t. get_or p.bases t 0) p.threads 16 (ranged f).0 (sym a.ensures ∙ not-false a.result w.left))
+    (λ w. all_of_more is_priority (λ t. get_or p.bases t 0) p.threads 16 (ranged f).0 (sym a.ensures ∙ not-false a.result w.left))
     c.if2.branch
 
 in-range-requires : tie.Need-in-range-requires
@@ -41,7 +41,7 @@ in-range-requires c κs = search rules
 
 returns : tie.Need-returns
 returns c =
-    rw (valid-view c.before.before.args.plan, ← c.before.in-range.ensures, not-true c.before.in-range.result c.if1.true)
+    rw (valid_view c.before.before.args.plan, ← c.before.in_range_lem.ensures, not-true c.before.in_range_lem.result c.if1.true)
 
 all-priorities-requires : tie.Need-all-priorities-requires
 all-priorities-requires c κs = search rules
@@ -52,7 +52,7 @@ bases-pass-requires c κs = omega (arith, (ranged c.before.before.before).0)
 returns-2 : tie.Need-returns-2
 returns-2 c =
     let f = c.before.before.before.before.before in
-    rw (valid-view f.before.before.args.plan, counted f, ← c.before.bases-pass.ensures, not-true c.before.bases-pass.result c.if3.true)
+    rw (valid_view f.before.before.args.plan, counted f, ← c.before.bases-pass.ensures, not-true c.before.bases-pass.result c.if3.true)
 
 all-within-requires : tie.Need-all-within-requires
 all-within-requires c κs = (ranged c.before.before.before.before).1
@@ -63,8 +63,8 @@ returns-3 c =
     let f = j.before.before.before in
     let p = f.before.before.args.plan in
     let w = c.before.all-within in
-    rw (valid-view p, counted f, prioritised j)
-    (sym (all-of-more (needsWithin p.sections) (λ t. get_or p.needs t 0) p.threads 16 (ranged f).0 (sym w.ensures ∙ c.if4.true)))
+    rw (valid_view p, counted f, prioritised j)
+    (sym (all_of_more (needs_within p.sections) (λ t. get_or p.needs t 0) p.threads 16 (ranged f).0 (sym w.ensures ∙ c.if4.true)))
 
 needs-pass-requires : tie.Need-needs-pass-requires
 needs-pass-requires c κs = ranged c.before.before.before.before.before.before
@@ -73,7 +73,7 @@ returns-4 : tie.Need-returns-4
 returns-4 c =
     let j = c.before.before.before.before in
     let f = j.before.before.before in
-    rw (valid-view f.before.before.args.plan, counted f, prioritised j) c.needs-pass.ensures
+    rw (valid_view f.before.before.args.plan, counted f, prioritised j) c.needs-pass.ensures
 
 pub passes-spec : {M : Type 1} → statement M
 passes-spec =

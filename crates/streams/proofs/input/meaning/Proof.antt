@@ -11,15 +11,15 @@ use mir.Syntax.{w64}
 use mir.Val.{Fits, to_z, of_z}
 use mir.Facts.{to_z-of_z}
 use Rattle.streams.specs.declared.input.Outcome.TheVariants.{Failed, Moved}
-use Rattle.streams.specs.Input.{meaningOf}
+use Rattle.streams.specs.Input.{meaning_of}
 use Rattle.streams.proofs.input.meaning.Statement.{statement}
 use Rattle.streams.proofs.input.meaning.Tie as tie
 
-negative : (z : ℤ) → lt_z z (pos 0) ≡ true → Failed ≡ meaningOf z
+negative : (z : ℤ) → lt_z z (pos 0) ≡ true → Failed ≡ meaning_of z
 negative (pos n) e = absurd (omega (arith, ltb-true n 0 e))
 negative (negsuc k) e = refl
 
-positive : (z : ℤ) → lt_z z (pos 0) ≡ false → (z ≡ pos 0 → ⊥) → Moved (nat_abs z) ≡ meaningOf z
+positive : (z : ℤ) → lt_z z (pos 0) ≡ false → (z ≡ pos 0 → ⊥) → Moved (nat_abs z) ≡ meaning_of z
 positive (pos n) e h = rw (ne_eqb n 0 (λ q. h (ap pos q)))
 positive (negsuc k) e h = let z : ◌≡◌ {A = ℕ} 0 1 = cc in absurd (omega arith)
 
@@ -32,7 +32,7 @@ returns : tie.Need-returns
 returns c = let e = to_z-of_z c.before.ranges.got in negative c.before.args.got (ap (λ z. lt_z z (pos 0)) (sym e) ∙ c.if1.true)
 
 returns-2 : tie.Need-returns-2
-returns-2 c = let e = to_z-of_z c.before.before.ranges.got in ap meaningOf (sym (ap (to_z w64) c.if2.true) ∙ e)
+returns-2 c = let e = to_z-of_z c.before.before.ranges.got in ap meaning_of (sym (ap (to_z w64) c.if2.true) ∙ e)
 
 cast-t3 : tie.Need-overflow-cast-t3
 cast-t3 c =

@@ -5,7 +5,7 @@ use Prim.Native.Nat.{◌+◌, ◌-◌, ◌≤◌}
 use native.Mathlib.Omega.{arith}
 use borrow.Author.Rules.{rules}
 use lib.ListN.{length, take}
-use Rattle.streams.proofs.Lines.{no_byte, next-byte, all-bytes}
+use Rattle.streams.proofs.Lines.{no_byte, next_byte, all_bytes}
 use Rattle.streams.proofs.text.put.Statement.{statement}
 use Rattle.streams.proofs.text.put.Tie as tie
 
@@ -39,7 +39,7 @@ loop-again c =
     let l = c.before.before.loop in (
       search rules,
       search rules,
-      next-byte s.text.now s.out.now l.out s.at l.i (omega arith) (omega arith) l.invariant.2,
+      next_byte s.text.now s.out.now l.out s.at l.i (omega arith) (omega arith) l.invariant.2,
     )
 
 add-result : tie.Need-overflow-add-result invariant-loop decreases-loop
@@ -52,7 +52,7 @@ returns : tie.Need-returns invariant-loop decreases-loop
 returns c =
     let s = c.before.before.args in
     let l = c.before.loop in
-    (omega arith, all-bytes s.text.now s.out.now l.out s.at l.i (omega arith) l.invariant.2)
+    (omega arith, all_bytes s.text.now s.out.now l.out s.at l.i (omega arith) l.invariant.2)
 
 pub put_spec : {M : Type 1} → statement M
 put_spec =

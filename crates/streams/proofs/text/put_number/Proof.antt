@@ -5,7 +5,7 @@ use native.Mathlib.Omega.{arith}
 use borrow.Author.Rules.{rules}
 use lib.ListN.{take}
 use Rattle.streams.specs.Text.{decimal}
-use Rattle.streams.proofs.Fewest.{decimal-fewest, few-digits}
+use Rattle.streams.proofs.Fewest.{decimal_fewest, few_digits}
 use Rattle.streams.proofs.Lines.{joined}
 use Rattle.streams.proofs.text.put_number.Statement.{statement}
 use Rattle.streams.proofs.text.put_number.Tie as tie
@@ -29,7 +29,7 @@ put-requires-2 : tie.Need-put-requires-2
 put-requires-2 c κs =
     let d = c.before.before.before.before.before.before.before.decimal in
     let s = c.before.before.before.before.before.before.before.before.before.before in
-    omega (arith, d.ensures.0.1, few-digits s.args.n d.result s.ranges.n.fits d.ensures.1.0)
+    omega (arith, d.ensures.0.1, few_digits s.args.n d.result s.ranges.n.fits d.ensures.1.0)
 
 same_length : tie.Need-same-length
 same_length c = search rules
@@ -40,9 +40,9 @@ returns c =
     let q = c.before.before.before.before.before.before.before.put in
     let d = c.before.before.before.before.before.before.before.before.before.before.decimal in
     let s = c.before.before.before.before.before.before.before.before.before.before.before.before.before in (
-      omega (arith, p.ensures.0, q.ensures.0, d.ensures.0.1, few-digits s.args.n d.result s.ranges.n.fits d.ensures.1.0),
+      omega (arith, p.ensures.0, q.ensures.0, d.ensures.0.1, few_digits s.args.n d.result s.ranges.n.fits d.ensures.1.0),
       joined (take s.args.at s.args.out.now) (32 ∷ []) (decimal s.args.n)
-          (p.ensures.1 ∙ ap (λ l. take q.result q.new.1.0 ++ l) (d.ensures.1.1 ∙ decimal-fewest s.args.n d.result d.ensures.1.0))
+          (p.ensures.1 ∙ ap (λ l. take q.result q.new.1.0 ++ l) (d.ensures.1.1 ∙ decimal_fewest s.args.n d.result d.ensures.1.0))
           q.ensures.1,
     )
 

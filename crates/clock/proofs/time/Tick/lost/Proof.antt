@@ -8,7 +8,7 @@ use native.Mathlib.Omega.{arith}
 use borrow.Author.Rules.{rules}
 use borrow.Author.Tests.{le-ltb, ne_eqb}
 use Rattle.model.specs.Timers.{lost}
-use Rattle.model.proofs.Laws.{lost-none, lost-alarm}
+use Rattle.model.proofs.Laws.{lost_none, lost_alarm}
 use Rattle.clock.proofs.time.Tick.lost.Statement.{statement}
 use Rattle.clock.proofs.time.Tick.lost.Tie as tie
 
@@ -20,12 +20,12 @@ lost-some k s n h d = rw (le-ltb k s h, ne_eqb n 0 d) (add-one ((k - s) / n))
 returns : tie.Need-returns
 returns c =
     let a = c.before.before.before.args in
-    sym (lost-none a.self.0 a.start.0 a.period.0 c.if1.true)
+    sym (lost_none a.self.0 a.start.0 a.period.0 c.if1.true)
 
 returns-2 : tie.Need-returns-2
 returns-2 c =
     let a = c.before.before.before.before.before.args in
-    sym (ap (lost a.self.0 a.start.0) c.if2.true ∙ lost-alarm a.self.0 a.start.0 c.before.before.if1.false)
+    sym (ap (lost a.self.0 a.start.0) c.if2.true ∙ lost_alarm a.self.0 a.start.0 c.before.before.if1.false)
 
 div-result : tie.Need-nonzero-div-result
 div-result c = search rules

@@ -12,12 +12,12 @@ use lib.Dec.{T, eqb, ltb, ltb→lt, nltb→le}
 use lib.ListN.{get_or}
 use Rattle.model.specs.Searches.{all, up_to}
 use Rattle.model.specs.Timers.{Timer}
-use Rattle.model.specs.Formed.{lastWake}
+use Rattle.model.specs.Formed.{last_wake}
 use Rattle.model.proofs.Tests.{split, is_true, is_false, equal?}
-use Rattle.model.proofs.Loops.{AllPass, all-begin, pass_kept, pass-lost, all_asked}
+use Rattle.model.proofs.Loops.{AllPass, all_begin, pass_kept, pass_lost, all_asked}
 use Rattle.clock.specs.declared.time.Tick.{Tick}
 use Rattle.clock.specs.View.{number_at, slot_of}
-use Rattle.clock.specs.Contracts.{soonest}
+use Rattle.clock.specs.Clauses.{soonest}
 use Rattle.clock.proofs.timers.Timers.all_after.Statement.{statement}
 use Rattle.clock.proofs.timers.Timers.all_after.Tie as tie
 
@@ -34,17 +34,17 @@ above-least n a b = go (split (ltb n a)) (split (ltb n b))
     go (inl x) (inr y) = rw (is_true (ltb n a) x, is_false (ltb n b) y) (le-ltb n (min a b) (omega (arith, nltb→le n b y)))
     go (inr x) y = rw (is_false (ltb n a) x) (le-ltb n (min a b) (omega (arith, nltb→le n a x)))
 
-module _ (n : ℕ) (h : n < lastWake) (numbers : List Tick) (periods : List ℕ) where
-  abbrev slotHere : ℕ → Option Timer
-  slotHere i = slot_of (number_at numbers i) (get_or periods i 0)
+module _ (n : ℕ) (h : n < last_wake) (numbers : List Tick) (periods : List ℕ) where
+  abbrev slot_here : ℕ → Option Timer
+  slot_here i = slot_of (number_at numbers i) (get_or periods i 0)
 
-  all_pass : (l : List ℕ) → all (after n) (map (number_at numbers) l) ≡ ltb n (soonest (map slotHere l))
-  all_pass [] = sym (lt-ltb n lastWake h)
+  all_pass : (l : List ℕ) → all (after n) (map (number_at numbers) l) ≡ ltb n (soonest (map slot_here l))
+  all_pass [] = sym (lt-ltb n last_wake h)
   all_pass (i ∷ l) =
       let e = number_at numbers i in
       elim (equal? e 0) [
         | inl z ↦ rw (eq-eqb e 0 z) (all_pass l)
-        | inr d ↦ rw (ne_eqb e 0 d) (ap (λ b. ltb n e && b) (all_pass l) ∙ sym (above-least n e (soonest (map slotHere l))))
+        | inr d ↦ rw (ne_eqb e 0 d) (ap (λ b. ltb n e && b) (all_pass l) ∙ sym (above-least n e (soonest (map slot_here l))))
       ]
 
 abbrev invariant-loop : tie.invariant-loop
@@ -54,7 +54,7 @@ abbrev decreases-loop : tie.decreases-loop
 decreases-loop number all' pass₀ i₀ pass i = 8 - i
 
 loop-holds : tie.Need-loop-init invariant-loop decreases-loop
-loop-holds c = let a = c.before.args in (omega arith, all-begin (after a.number.0) (number_at a.self.expiries) 8)
+loop-holds c = let a = c.before.args in (omega arith, all_begin (after a.number.0) (number_at a.self.expiries) 8)
 
 mul-expiry : tie.Need-overflow-mul-expiry invariant-loop decreases-loop
 mul-expiry c = search rules
@@ -75,7 +75,7 @@ loop-again c =
     let n = a.number.0 in
     let expiry : ℕ → ℕ = number_at a.self.expiries in
     let i = k.loop.i in
-    let lost = pass-lost (after n) expiry 8 i k.loop.pass (omega arith) k.loop.invariant.1 c.if1.pass in
+    let lost = pass_lost (after n) expiry 8 i k.loop.pass (omega arith) k.loop.invariant.1 c.if1.pass in
     let kept = pass_kept (after n) expiry 8 i k.loop.pass (omega arith) k.loop.invariant.1 c.if1.pass in (
       omega arith,
       ⊎_elim

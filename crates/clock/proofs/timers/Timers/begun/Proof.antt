@@ -2,7 +2,7 @@
 use mathlib.Core.Path.{ap, sym, ◌∙◌}
 use mathlib.Core.Logic.{⊎_elim}
 use mathlib.Core.Bool.{cond}
-use Rattle.model.specs.Timers.{afterArm, setArming}
+use Rattle.model.specs.Timers.{after_arm, set_arming}
 use Rattle.clock.specs.declared.timers.Arming.{Arming}
 use Rattle.clock.specs.View.{view}
 use Rattle.clock.proofs.timers.Timers.begun.Statement.{statement}
@@ -12,7 +12,7 @@ returns : tie.Need-returns
 returns c =
     let a = c.before.before.args in
     let t = a.self in
-    let to = setArming (afterArm a.timer) (view t) in
+    let to = set_arming (after_arm a.timer) (view t) in
     ⊎_elim
     (λ w. ap (λ (x : Arming). view (record { expiries = t.expiries; periods = t.periods; arming = x })) w.1 ∙ sym (ap (λ b. cond b to (view t)) w.0.taken))
     (λ w. ap (λ (x : Arming). view (record { expiries = t.expiries; periods = t.periods; arming = x })) w.1 ∙ sym (ap (λ b. cond b to (view t)) w.0.left))

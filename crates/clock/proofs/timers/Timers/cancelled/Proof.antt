@@ -6,10 +6,10 @@ use mathlib.Core.List.{List}
 use mathlib.Core.Option.{Option, none}
 use native.Mathlib.Omega.{arith}
 use borrow.Author.Rules.{rules}
-use Rattle.model.specs.Timers.{Timer, setSlot}
+use Rattle.model.specs.Timers.{Timer, set_slot}
 use Rattle.clock.specs.declared.time.Tick.{Tick}
 use Rattle.clock.specs.View.{view}
-use Rattle.clock.proofs.Sized.{expiries-size}
+use Rattle.clock.proofs.Sized.{expiries_size}
 use Rattle.clock.proofs.Slots.{slots_set}
 use Rattle.clock.proofs.timers.Timers.cancelled.Statement.{statement}
 use Rattle.clock.proofs.timers.Timers.cancelled.Tie as tie
@@ -25,12 +25,12 @@ returns c =
     let s = c.before.before in
     let a = s.args in
     let t = a.self in
-    let to = setSlot a.timer none (view t) in
+    let to = set_slot a.timer none (view t) in
     ⊎_elim
     (λ w.
     ap (λ (x : List Tick). view (record { expiries = x; periods = t.periods; arming = t.arming })) w.1
     ∙ ap (λ (l : List (Option Timer)). record { slots = l; arming = (view t).arming })
-    (slots_set t a.timer (record { 0 = 0 }) t.periods (omega (arith, s.requires, expiries-size t s.well-formed.0)) (λ i d. refl))
+    (slots_set t a.timer (record { 0 = 0 }) t.periods (omega (arith, s.requires, expiries_size t s.well-formed.0)) (λ i d. refl))
     ∙ sym (ap (λ b. cond b to (view t)) w.0.taken))
     (λ w. ap (λ (x : List Tick). view (record { expiries = x; periods = t.periods; arming = t.arming })) w.1 ∙ sym (ap (λ b. cond b to (view t)) w.0.left))
     c.if1.branch

@@ -8,13 +8,13 @@ use native.Mathlib.Omega.{arith}
 use borrow.Author.Rules.{rules}
 use borrow.Author.Tests.{ltb-true, ltb-false, lt-ltb, le-ltb}
 use lib.Dec.{ltb}
-use Rattle.model.specs.Timers.{timer, startGiven, lost, armedAt}
-use Rattle.model.proofs.Laws.{armed-soon}
+use Rattle.model.specs.Timers.{timer, start_given, lost, armed_at}
+use Rattle.model.proofs.Laws.{armed_soon}
 use Rattle.clock.specs.declared.timers.Timers.{Timers}
 use Rattle.clock.specs.View.{slot_of, view}
-use Rattle.clock.specs.Contracts.{Comes}
-use Rattle.clock.proofs.Slots.{not-armed, is-armed}
-use Rattle.clock.proofs.Stages.{start-kept}
+use Rattle.clock.specs.Clauses.{Comes}
+use Rattle.clock.proofs.Slots.{not_armed, is_armed_lem}
+use Rattle.clock.proofs.Stages.{start_kept}
 use Rattle.clock.proofs.timers.Timers.first_expiry.Statement.{statement}
 use Rattle.clock.proofs.timers.Timers.first_expiry.Tie as tie
 
@@ -27,30 +27,30 @@ module _ (t : Timers) (k n : ℕ) (c : Comes t 2) (h : t.arming.start ≤ 65535)
   abbrev start : ℕ
   start = t.arming.start
 
-  module _ (count : ℕ) (e : count ≡ lost k (startGiven (view t).arming) n) (w : (k < start) ⊎ (0 < n)) where
+  module _ (count : ℕ) (e : count ≡ lost k (start_given (view t).arming) n) (w : (k < start) ⊎ (0 < n)) where
     counted : start + count * n ≡ start + lost k start n * n
-    counted = ap (λ j. start + j * n) (e ∙ ap (λ s. lost k s n) (start-kept t c))
+    counted = ap (λ j. start + j * n) (e ∙ ap (λ s. lost k s n) (start_kept t c))
 
     sum-soon : start + count * n ≤ k + 65535
-    sum-soon = omega (arith, counted, (armed-soon k start n h l w).soon)
+    sum-soon = omega (arith, counted, (armed_soon k start n h l w).soon)
 
     -- it is above the tick number, so not 0
-    armed-slot : (expiry : ℕ) → expiry ≡ start + count * n → slot_of expiry n ≡ armedAt k start n
-    unfolding armedAt
-    armed-slot expiry q = is-armed n (λ z. omega (arith, counted, (armed-soon k start n h l w).later)) ∙ ap (λ x. some (timer x n)) (q ∙ counted) ∙ sym (go w)
+    armed-slot : (expiry : ℕ) → expiry ≡ start + count * n → slot_of expiry n ≡ armed_at k start n
+    unfolding armed_at
+    armed-slot expiry q = is_armed_lem n (λ z. omega (arith, counted, (armed_soon k start n h l w).later)) ∙ ap (λ x. some (timer x n)) (q ∙ counted) ∙ sym (go w)
       where
-        go : (k < start) ⊎ (0 < n) → armedAt k start n ≡ some (timer (start + lost k start n * n) n)
+        go : (k < start) ⊎ (0 < n) → armed_at k start n ≡ some (timer (start + lost k start n * n) n)
         go (inl i) = rw (lt-ltb k start i)
         go (inr i) = rw (lt-ltb 0 n i, or-true (ltb k start))
 
   -- an alarm too late
-  late_slot : (expiry : ℕ) → expiry ≡ 0 → start ≤ k → n ≤ 0 → slot_of expiry n ≡ armedAt k start n
-  unfolding armedAt
-  late_slot expiry z i j = not-armed n z ∙ sym (rw (le-ltb k start i, le-ltb 0 n j))
+  late_slot : (expiry : ℕ) → expiry ≡ 0 → start ≤ k → n ≤ 0 → slot_of expiry n ≡ armed_at k start n
+  unfolding armed_at
+  late_slot expiry z i j = not_armed n z ∙ sym (rw (le-ltb k start i, le-ltb 0 n j))
 
   -- the start that the arming was given
-  given-start : armedAt k start n ≡ armedAt k (startGiven (view t).arming) n
-  given-start = ap (λ s. armedAt k s n) (sym (start-kept t c))
+  given-start : armed_at k start n ≡ armed_at k (start_given (view t).arming) n
+  given-start = ap (λ s. armed_at k s n) (sym (start_kept t c))
 
 cast-t8 : tie.Need-overflow-cast-t8
 cast-t8 c = search rules

@@ -4,7 +4,7 @@ use mathlib.Core.Bool.{Bool, true, false, cond, not}
 use mathlib.Core.Option.{none, some}
 use borrow.Author.Rules.{rules}
 use lib.Dec.{eqb}
-use Rattle.model.specs.Timers.{Timer, isArmed}
+use Rattle.model.specs.Timers.{Timer, is_armed}
 use Rattle.clock.specs.View.{number_at}
 use Rattle.clock.proofs.Slots.{slot_at}
 use Rattle.clock.proofs.timers.Timers.is_armed.Statement.{statement}
@@ -17,7 +17,7 @@ array-copy-out-expiry : tie.Need-array-copy-out-expiry
 array-copy-out-expiry c = search rules
 
 -- a slot is armed where the test for 0 fails
-by-test : (b : Bool) (t : Timer) → not b ≡ isArmed (cond b none (some t))
+by-test : (b : Bool) (t : Timer) → not b ≡ is_armed (cond b none (some t))
 by-test true t = refl
 by-test false t = refl
 
@@ -25,7 +25,7 @@ returns : tie.Need-returns
 returns c =
     let k = c.before.before.before in
     let a = k.args in
-    by-test (eqb (number_at a.self.expiries a.timer) 0) _ ∙ sym (ap isArmed (slot_at a.self a.timer k.requires))
+    by-test (eqb (number_at a.self.expiries a.timer) 0) _ ∙ sym (ap is_armed (slot_at a.self a.timer k.requires))
 
 pub is-armed-spec : {M : Type 1} → statement M
 is-armed-spec = tie.close (tie.spec mul-expiry array-copy-out-expiry returns)

@@ -2,8 +2,8 @@
 use mathlib.Core.Path.{ap, sym, ◌∙◌}
 use borrow.Author.Rules.{rules}
 use Rattle.model.specs.Timers as model
-use Rattle.model.specs.Timers.{lost, startGiven}
-use Rattle.clock.proofs.Stages.{after-start}
+use Rattle.model.specs.Timers.{lost, start_given}
+use Rattle.clock.proofs.Stages.{after_start_lem}
 use Rattle.clock.proofs.timers.Timers.lost.Statement.{statement}
 use Rattle.clock.proofs.timers.Timers.lost.Tie as tie
 
@@ -17,7 +17,7 @@ returns : tie.Need-returns
 returns c =
     let k = c.before.before.before in
     let a = k.args in
-    c.lost.ensures ∙ sym (ap (λ (m : model.Arming). lost a.now.0 (startGiven m) a.period) (after-start a.self k.requires.0))
+    c.lost.ensures ∙ sym (ap (λ (m : model.Arming). lost a.now.0 (start_given m) a.period) (after_start_lem a.self k.requires.0))
 
 pub lost-spec : {M : Type 1} → statement M
 lost-spec = tie.close (tie.spec cast-t5 lost-requires returns)

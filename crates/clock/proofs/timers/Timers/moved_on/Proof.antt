@@ -1,4 +1,4 @@
--- `Timers::moved_on` meets its contract: after i turns the timers before i have moved on, and the others are as they were.
+-- `Timers::moved_on_lem` meets its contract: after i turns the timers before i have moved on, and the others are as they were.
 use mathlib.Core.Path.{◌≡◌, refl, ap, sym, ◌∙◌, subst}
 use mathlib.Core.Logic.{◌⊎◌, inl, inr, ◌≢◌, ⊎_elim}
 use mathlib.Core.List.{List}
@@ -8,28 +8,28 @@ use native.Mathlib.Omega.{arith}
 use borrow.Author.Rules.{rules}
 use borrow.Author.Tests.{eq-eqb, ne_eqb}
 use lib.ListN.{length, get_or, set, length-set}
-use Rattle.model.specs.Timers.{Timer, timer, again, movedOn, move_on}
+use Rattle.model.specs.Timers.{Timer, timer, again, moved_on, move_on}
 use Rattle.model.proofs.Tests.{equal?}
-use Rattle.model.proofs.Loops.{listed-alike}
+use Rattle.model.proofs.Loops.{listed_alike}
 use Rattle.clock.specs.declared.time.Tick.{Tick}
 use Rattle.clock.specs.declared.timers.Timers.{Timers}
-use Rattle.clock.specs.View.{number_at, slot_of, slotIn, view}
-use Rattle.clock.proofs.Sized.{expiries-size}
-use Rattle.clock.proofs.Slots.{slots_of, not-armed, is-armed, number_same, number-other}
+use Rattle.clock.specs.View.{number_at, slot_of, slot_in, view}
+use Rattle.clock.proofs.Sized.{expiries_size}
+use Rattle.clock.proofs.Slots.{slots_of, not_armed, is_armed_lem, number_same, number_other}
 use Rattle.clock.proofs.timers.Timers.moved_on.Statement.{statement}
 use Rattle.clock.proofs.timers.Timers.moved_on.Tie as tie
 
 -- a timer that expires now moves on to its next expiry, and any other stays
 
-moves : {e : ℕ} (n p : ℕ) → 0 < n → e ≡ n → movedOn n (slot_of e p) ≡ again (timer n p)
-moves {e} n p h q = ap (λ x. movedOn n (slot_of x p)) q ∙ ap (movedOn n) (is-armed {e = n} p (λ z. omega arith)) ∙ (rw (eq-eqb n n refl))
+moves : {e : ℕ} (n p : ℕ) → 0 < n → e ≡ n → moved_on n (slot_of e p) ≡ again (timer n p)
+moves {e} n p h q = ap (λ x. moved_on n (slot_of x p)) q ∙ ap (moved_on n) (is_armed_lem {e = n} p (λ z. omega arith)) ∙ (rw (eq-eqb n n refl))
 
-stays : (e n p : ℕ) → e ≢ n → movedOn n (slot_of e p) ≡ slot_of e p
+stays : (e n p : ℕ) → e ≢ n → moved_on n (slot_of e p) ≡ slot_of e p
 stays e n p d = go (equal? e 0)
   where
-    go : (e ≡ 0) ⊎ (e ≢ 0) → movedOn n (slot_of e p) ≡ slot_of e p
-    go (inl z) = ap (movedOn n) (not-armed p z) ∙ sym (not-armed p z)
-    go (inr a) = ap (movedOn n) (is-armed p a) ∙ (rw (ne_eqb e n d)) ∙ sym (is-armed p a)
+    go : (e ≡ 0) ⊎ (e ≢ 0) → moved_on n (slot_of e p) ≡ slot_of e p
+    go (inl z) = ap (moved_on n) (not_armed p z) ∙ sym (not_armed p z)
+    go (inr a) = ap (moved_on n) (is_armed_lem p a) ∙ (rw (ne_eqb e n d)) ∙ sym (is_armed_lem p a)
 
 module _ (t : Timers) (n : ℕ) where
   abbrev period : ℕ → ℕ
@@ -37,14 +37,14 @@ module _ (t : Timers) (n : ℕ) where
 
   record MovedTo (i : ℕ) (expiries : List Tick) : Type 0 where
     sized : length expiries ≡ length t.expiries
-    moved : (k : ℕ) → k < i → slot_of (number_at expiries k) (period k) ≡ movedOn n (slotIn t k)
+    moved : (k : ℕ) → k < i → slot_of (number_at expiries k) (period k) ≡ moved_on n (slot_in t k)
     kept : (k : ℕ) → i ≤ k → number_at expiries k ≡ number_at t.expiries k
 
   none-moved : MovedTo 0 t.expiries
   none-moved = record { sized = refl; moved = λ k h. absurd (omega arith); kept = λ k h. refl }
 
   all_moved : {i : ℕ} (expiries : List Tick) → 8 ≤ i → MovedTo i expiries → slots_of expiries t.periods ≡ (move_on n (view t)).slots
-  all_moved expiries h inv = listed-alike (λ k. slot_of (number_at expiries k) (period k)) (λ k. movedOn n (slotIn t k)) 8 (λ k l. inv.moved k (omega arith))
+  all_moved expiries h inv = listed_alike (λ k. slot_of (number_at expiries k) (period k)) (λ k. moved_on n (slot_in t k)) 8 (λ k l. inv.moved k (omega arith))
 
   module _ (i : ℕ) (expiries : List Tick) (inv : MovedTo i expiries) where
     -- the timer i expires now
@@ -53,18 +53,18 @@ module _ (t : Timers) (n : ℕ) where
         record {
           sized = length-set expiries i e ∙ inv.sized;
           moved = λ k l. at k l (equal? k i);
-          kept = λ k l. number-other expiries i k e (λ z. omega arith) ∙ inv.kept k (omega arith);
+          kept = λ k l. number_other expiries i k e (λ z. omega arith) ∙ inv.kept k (omega arith);
         }
       where
-        at : (k : ℕ) → k < i + 1 → (k ≡ i) ⊎ (k ≢ i) → slot_of (number_at (set expiries i e) k) (period k) ≡ movedOn n (slotIn t k)
+        at : (k : ℕ) → k < i + 1 → (k ≡ i) ⊎ (k ≢ i) → slot_of (number_at (set expiries i e) k) (period k) ≡ moved_on n (slot_in t k)
         at k l (inl z) = rw z (ap (λ x. slot_of x (period i)) (number_same expiries i e h) ∙ next ∙ sym (moves n (period i) above now))
-        at k l (inr d) = ap (λ x. slot_of x (period k)) (number-other expiries i k e d) ∙ inv.moved k (omega arith)
+        at k l (inr d) = ap (λ x. slot_of x (period k)) (number_other expiries i k e d) ∙ inv.moved k (omega arith)
 
     -- it does not
     stays_on : number_at t.expiries i ≢ n → MovedTo (i + 1) expiries
     stays_on d = record { sized = inv.sized; moved = λ k l. at k l (equal? k i); kept = λ k l. inv.kept k (omega arith) }
       where
-        at : (k : ℕ) → k < i + 1 → (k ≡ i) ⊎ (k ≢ i) → slot_of (number_at expiries k) (period k) ≡ movedOn n (slotIn t k)
+        at : (k : ℕ) → k < i + 1 → (k ≡ i) ⊎ (k ≢ i) → slot_of (number_at expiries k) (period k) ≡ moved_on n (slot_in t k)
         at k l (inl z) = rw z (ap (λ x. slot_of x (period i)) (inv.kept i (omega arith)) ∙ sym (stays (number_at t.expiries i) n (period i) d))
         at k l (inr e) = inv.moved k (omega arith)
 
@@ -116,7 +116,7 @@ loop-again c =
     let h : i < 8 = c.before.before.before.before.loop-test.true in (
       omega (arith, h),
       ⊎_elim
-          (λ w. subst (MovedTo t n (i + 1)) (sym w.2) (moves-on t n i l q w.1.result (omega (arith, h, q.sized, expiries-size t s.well-formed.0)) s.requires.0 w.0.taken w.1.ensures))
+          (λ w. subst (MovedTo t n (i + 1)) (sym w.2) (moves-on t n i l q w.1.result (omega (arith, h, q.sized, expiries_size t s.well-formed.0)) s.requires.0 w.0.taken w.1.ensures))
           (λ w. subst (MovedTo t n (i + 1)) (sym w.1) (stays_on t n i l q w.0.left))
           c.if1.branch,
     )

@@ -9,53 +9,53 @@ use borrow.Author.Rules.{rules}
 use borrow.Author.Tests.{ltb-true, ltb-false}
 use lib.ListN.{get_or}
 use Rattle.model.specs.Timers.{Timer}
-use Rattle.model.specs.Formed.{lastWake}
+use Rattle.model.specs.Formed.{last_wake}
 use Rattle.model.proofs.Loops.{left, begin, turn, done}
 use Rattle.clock.specs.declared.time.Tick.{Tick}
 use Rattle.clock.specs.View.{number_at, slot_of}
-use Rattle.clock.specs.Contracts.{soonest}
-use Rattle.clock.proofs.Slots.{slots_of, not-armed, is-armed, soonest-last}
+use Rattle.clock.specs.Clauses.{soonest}
+use Rattle.clock.proofs.Slots.{slots_of, not_armed, is_armed_lem, soonest_last}
 use Rattle.clock.proofs.timers.Timers.soonest.Statement.{statement}
 use Rattle.clock.proofs.timers.Timers.soonest.Tie as tie
 
 module _ (numbers : List Tick) (periods : List ℕ) where
-  abbrev slotHere : ℕ → Option Timer
-  slotHere i = slot_of (number_at numbers i) (get_or periods i 0)
+  abbrev slot_here : ℕ → Option Timer
+  slot_here i = slot_of (number_at numbers i) (get_or periods i 0)
 
   -- the soonest of these timers
-  abbrev soonestOf : List ℕ → ℕ
-  soonestOf l = soonest (map slotHere l)
+  abbrev soonest_of : List ℕ → ℕ
+  soonest_of l = soonest (map slot_here l)
 
   -- no number kept is above the greatest, so that the least of it and of those left is the least of all
   record SoonestLeft (i first : ℕ) : Type 0 where
-    most : first ≤ lastWake
-    least : min first (soonestOf (left i 8)) ≡ soonest (slots_of numbers periods)
+    most : first ≤ last_wake
+    least : min first (soonest_of (left i 8)) ≡ soonest (slots_of numbers periods)
 
-  none_seen : SoonestLeft 0 lastWake
-  none_seen = record { most = omega arith; least = omega (arith, begin soonestOf 8, soonest-last (slots_of numbers periods)) }
+  none_seen : SoonestLeft 0 last_wake
+  none_seen = record { most = omega arith; least = omega (arith, begin soonest_of 8, soonest_last (slots_of numbers periods)) }
 
   all_seen : {i first : ℕ} → 8 ≤ i → SoonestLeft i first → first ≡ soonest (slots_of numbers periods)
-  all_seen {i} k inv = omega (arith, done soonestOf 8 i k, inv.most, inv.least)
+  all_seen {i} k inv = omega (arith, done soonest_of 8 i k, inv.most, inv.least)
 
   module _ (i : ℕ) {first : ℕ} (h : i < 8) (inv : SoonestLeft i first) where
     abbrev expiry : ℕ
     expiry = number_at numbers i
 
-    turned : soonestOf (left i 8) ≡ soonest (slotHere i ∷ map slotHere (left (i + 1) 8))
-    turned = turn soonestOf 8 i h
+    turned : soonest_of (left i 8) ≡ soonest (slot_here i ∷ map slot_here (left (i + 1) 8))
+    turned = turn soonest_of 8 i h
 
-    armed : expiry ≢ 0 → soonestOf (left i 8) ≡ min expiry (soonestOf (left (i + 1) 8))
-    armed d = turned ∙ ap (λ (o : Option Timer). soonest (o ∷ map slotHere (left (i + 1) 8))) (is-armed (get_or periods i 0) d)
+    armed : expiry ≢ 0 → soonest_of (left i 8) ≡ min expiry (soonest_of (left (i + 1) 8))
+    armed d = turned ∙ ap (λ (o : Option Timer). soonest (o ∷ map slot_here (left (i + 1) 8))) (is_armed_lem (get_or periods i 0) d)
 
-    unarmed : expiry ≡ 0 → soonestOf (left i 8) ≡ soonestOf (left (i + 1) 8)
-    unarmed z = turned ∙ ap (λ (o : Option Timer). soonest (o ∷ map slotHere (left (i + 1) 8))) (not-armed (get_or periods i 0) z)
+    unarmed : expiry ≡ 0 → soonest_of (left i 8) ≡ soonest_of (left (i + 1) 8)
+    unarmed z = turned ∙ ap (λ (o : Option Timer). soonest (o ∷ map slot_here (left (i + 1) 8))) (not_armed (get_or periods i 0) z)
 
     sooner : {kept : ℕ} → expiry ≢ 0 → expiry < first → kept ≡ expiry → SoonestLeft (i + 1) kept
     sooner d k e = record { most = omega (arith, inv.most); least = omega (arith, armed d, inv.least) }
 
-    no-sooner : {kept : ℕ} → ((expiry ≢ 0) × (first ≤ expiry)) ⊎ (expiry ≡ 0) → kept ≡ first → SoonestLeft (i + 1) kept
-    no-sooner (inl k) e = record { most = omega (arith, inv.most); least = omega (arith, armed k.0, k.1, inv.least) }
-    no-sooner (inr z) e = record { most = omega (arith, inv.most); least = omega (arith, unarmed z, inv.least) }
+    no_sooner : {kept : ℕ} → ((expiry ≢ 0) × (first ≤ expiry)) ⊎ (expiry ≡ 0) → kept ≡ first → SoonestLeft (i + 1) kept
+    no_sooner (inl k) e = record { most = omega (arith, inv.most); least = omega (arith, armed k.0, k.1, inv.least) }
+    no_sooner (inr z) e = record { most = omega (arith, inv.most); least = omega (arith, unarmed z, inv.least) }
 
 -- the periods are not in the loop's sight: it holds whatever they are
 abbrev invariant-loop : tie.invariant-loop
@@ -90,7 +90,7 @@ loop-again c =
       omega (arith, h),
       λ periods. let q = k.loop.invariant.1 periods in
           ⊎_elim (λ p. sooner all periods i h q p.0.taken (ltb-true e k.loop.first.0 p.3.taken) (ap number p.4))
-          (λ p. no-sooner all periods i h q (⊎_elim (λ u. inl (u.0.taken, ltb-false e k.loop.first.0 u.3.left)) (λ u. inr u.left) p.0.came) (ap number p.1))
+          (λ p. no_sooner all periods i h q (⊎_elim (λ u. inl (u.0.taken, ltb-false e k.loop.first.0 u.3.left)) (λ u. inr u.left) p.0.came) (ap number p.1))
           c.if1.branch,
     )
 

@@ -3,10 +3,10 @@ use mathlib.Core.Path.{ap, sym, ◌∙◌}
 use mathlib.Core.Logic.{⊎_elim}
 use mathlib.Core.Bool.{cond}
 use Rattle.model.specs.Timers as model
-use Rattle.model.specs.Timers.{afterStart, timerGiven, setArming}
+use Rattle.model.specs.Timers.{after_start, timer_given, set_arming}
 use Rattle.clock.specs.declared.timers.Arming.{Arming}
 use Rattle.clock.specs.View.{view}
-use Rattle.clock.proofs.Stages.{after-arm}
+use Rattle.clock.proofs.Stages.{after_arm_lem}
 use Rattle.clock.proofs.timers.Timers.started.Statement.{statement}
 use Rattle.clock.proofs.timers.Timers.started.Tie as tie
 
@@ -15,11 +15,11 @@ returns c =
     let s = c.before.before in
     let a = s.args in
     let t = a.self in
-    let to = setArming (afterStart (timerGiven (view t).arming) a.number) (view t) in
+    let to = set_arming (after_start (timer_given (view t).arming) a.number) (view t) in
     ⊎_elim
     (λ w.
     ap (λ (x : Arming). view (record { expiries = t.expiries; periods = t.periods; arming = x })) w.1
-    ∙ sym (ap (λ (m : model.Arming). setArming (afterStart (timerGiven m) a.number) (view t)) (after-arm t s.requires))
+    ∙ sym (ap (λ (m : model.Arming). set_arming (after_start (timer_given m) a.number) (view t)) (after_arm_lem t s.requires))
     ∙ sym (ap (λ b. cond b to (view t)) w.0.taken))
     (λ w. ap (λ (x : Arming). view (record { expiries = t.expiries; periods = t.periods; arming = x })) w.1 ∙ sym (ap (λ b. cond b to (view t)) w.0.left))
     c.if1.branch

@@ -8,11 +8,11 @@ use native.Mathlib.Omega.{arith}
 use borrow.Author.Rules.{rules}
 use lib.ListN.{length, drop, length-append}
 use Rattle.model.specs.Searches.{filter, up_to}
-use Rattle.model.specs.Records.{timerCount}
-use Rattle.model.specs.Timers.{slot, expiresAt, owesExpire}
-use Rattle.model.proofs.Loops.{upTo-more}
+use Rattle.model.specs.Records.{timer_count}
+use Rattle.model.specs.Timers.{slot, expires_at, owes_expire}
+use Rattle.model.proofs.Loops.{up_to_more}
 use Rattle.lists.specs.Lists.{queued}
-use Rattle.lists.proofs.Laws.{length-queued, filter-kept, filter-dropped}
+use Rattle.lists.proofs.Laws.{length-queued, filter-kept, filter_dropped}
 use Rattle.clock.specs.declared.timers.Timers.{Timers}
 use Rattle.clock.specs.View.{view}
 use Rattle.due.specs.declared.reports.Reports.{Reports}
@@ -22,7 +22,7 @@ use Rattle.due.proofs.reports.Reports.expired.Tie as tie
 
 module _ (rs : Reports) (given : ℕ) (timers : Timers) (number : ℕ) where
   abbrev ends : ℕ → Bool
-  ends i = expiresAt number (slot (view timers) i) && not (owesExpire (drop given (owed rs)) i)
+  ends i = expires_at number (slot (view timers) i) && not (owes_expire (drop given (owed rs)) i)
 
   -- those below i that expire
   abbrev Below : List ℕ → (i : ℕ) → Type 0
@@ -74,18 +74,18 @@ loop-again c =
     (λ w.
     let q : f k.loop.i ≡ true = rw (sym e.expires.ensures ∙ w.0.taken, ap not (sym w.1.ensures) ∙ w.2.taken) in
     let n : w.3.result.count ≡ k.loop.out.count + 1 = sym (length-queued w.3.result) ∙ ap length w.3.ensures ∙ length-append (queued k.loop.out) (k.loop.i ∷ []) ∙ ap (λ m. m + 1) (length-queued k.loop.out) in
-    rw w.4 (omega (arith, n, v.0), omega (arith, h), w.3.ensures ∙ ap (λ l. l ++ (k.loop.i ∷ [])) v.2 ∙ sym (ap (filter f) (upTo-more k.loop.i) ∙ filter-kept f (up_to k.loop.i) k.loop.i q)))
+    rw w.4 (omega (arith, n, v.0), omega (arith, h), w.3.ensures ∙ ap (λ l. l ++ (k.loop.i ∷ [])) v.2 ∙ sym (ap (filter f) (up_to_more k.loop.i) ∙ filter-kept f (up_to k.loop.i) k.loop.i q)))
     (λ w.
     let q : f k.loop.i ≡ false =
     ⊎_elim (λ u. rw (sym e.expires.ensures ∙ u.0.taken, ap not (sym u.1.ensures) ∙ u.2.left)) (λ u. rw (sym e.expires.ensures ∙ u.left)) w.0.came in
-    rw w.1 (omega (arith, v.0), omega (arith, h), v.2 ∙ sym (ap (filter f) (upTo-more k.loop.i) ∙ filter-dropped f (up_to k.loop.i) k.loop.i q)))
+    rw w.1 (omega (arith, v.0), omega (arith, h), v.2 ∙ sym (ap (filter f) (up_to_more k.loop.i) ∙ filter_dropped f (up_to k.loop.i) k.loop.i q)))
     c.if1.branch
 
 returns : tie.Need-returns invariant-loop decreases-loop
 returns c =
     let k = c.before in
     let a = k.before.before.args in
-    let z : k.loop.i ≡ timerCount = omega (arith, k.loop.invariant.1, c.loop-test.false) in
+    let z : k.loop.i ≡ timer_count = omega (arith, k.loop.invariant.1, c.loop-test.false) in
     k.loop.invariant.2 ∙ ap (λ n. filter (ends a.self a.given a.timers a.number.0) (up_to n)) z
 
 pub expired-spec : {M : Type 1} → statement M

@@ -10,31 +10,31 @@ use borrow.Author.Tests.{eq-eqb, ne_eqb}
 use lib.Dec.{eqb}
 use lib.ListN.{drop, get_or}
 use Rattle.model.specs.Searches.{any}
-use Rattle.model.specs.Records.{isExpire}
+use Rattle.model.specs.Records.{is_expire}
 use Rattle.due.specs.declared.reports.Report.{Report}
-use Rattle.due.specs.Lists.{reportRoom, noReport, owed}
-use Rattle.due.proofs.ReportKinds.{expire-is}
-use Rattle.due.proofs.Places.{none-due, next-due}
+use Rattle.due.specs.Lists.{report_room, no_report, owed}
+use Rattle.due.proofs.ReportKinds.{expire_is}
+use Rattle.due.proofs.Places.{none_due, next_due}
 use Rattle.due.proofs.reports.Reports.owes_expire.Statement.{statement}
 use Rattle.due.proofs.reports.Reports.owes_expire.Tie as tie
 
 module _ (timer : ℕ) (items : List Report) (n : ℕ) where
   abbrev entry : ℕ → Report
-  entry i = get_or items i noReport
+  entry i = get_or items i no_report
 
   -- whether one of those from i on is such an Expire
   abbrev from : ℕ → Bool
-  from i = any (isExpire timer) (drop i (owed (record { items = items; count = n })))
+  from i = any (is_expire timer) (drop i (owed (record { items = items; count = n })))
 
   turn : (i : ℕ) → i < n → from i ≡ (eqb (entry i).kind 21 && eqb (entry i).operand timer) || from (i + 1)
-  turn i h = ap (any (isExpire timer)) (next-due entry n i h) ∙ ap (λ b. b || from (i + 1)) (expire-is (entry i) timer)
+  turn i h = ap (any (is_expire timer)) (next_due entry n i h) ∙ ap (λ b. b || from (i + 1)) (expire_is (entry i) timer)
 
   -- by whether this one is
   left : (given i : ℕ) → i < n → from i ≡ from given → {b : Bool} → eqb (entry i).kind 21 && eqb (entry i).operand timer ≡ b → b || from (i + 1) ≡ from given
   left given i h q e = ap (λ b. b || from (i + 1)) (sym e) ∙ sym (turn i h) ∙ q
 
   done : (i : ℕ) → n ≤ i → from i ≡ false
-  done i h = ap (any (isExpire timer)) (none-due entry n i h)
+  done i h = ap (any (is_expire timer)) (none_due entry n i h)
 
 abbrev invariant-loop : tie.invariant-loop
 invariant-loop given timer items n i₀ i = (given ≤ i) × (from timer items n i ≡ from timer items n given)
@@ -46,7 +46,7 @@ loop-holds : tie.Need-loop-init invariant-loop decreases-loop
 loop-holds c = (omega arith, refl)
 
 -- those left are in the array
-room : (l : tie.In-loop invariant-loop decreases-loop) → l.before.loop.i < reportRoom
+room : (l : tie.In-loop invariant-loop decreases-loop) → l.before.loop.i < report_room
 room l = let k = l.before in omega (arith, l.loop-test.true, k.loop.invariant.0, k.before.before.requires (omega (arith, l.loop-test.true, k.loop.invariant.0)))
 
 mul-r : tie.Need-overflow-mul-r invariant-loop decreases-loop

@@ -5,9 +5,9 @@ use mathlib.Core.List.{◌++◌, map, append_assoc}
 use native.Mathlib.Omega.{arith}
 use lib.ListN.{length, drop, length-append, length-map}
 use Rattle.model.specs.Searches.{up_to}
-use Rattle.model.specs.Records.{timerCount, Ready, Expire}
-use Rattle.model.specs.Timers.{slot, expiresAt, owesExpire, expired}
-use Rattle.model.specs.State.{withoutSwitch}
+use Rattle.model.specs.Records.{timer_count, Ready, Expire}
+use Rattle.model.specs.Timers.{slot, expires_at, owes_expire, expired}
+use Rattle.model.specs.State.{without_switch}
 use Rattle.model.proofs.Loops.{filter-few}
 use Rattle.lists.specs.Lists.{queued}
 use Rattle.lists.proofs.Laws.{length-queued}
@@ -25,7 +25,7 @@ without-switch-requires c κs = c.before.requires.in_array
 
 -- how many stay, and how many timers expire
 
-kept-count : (k : tie.After-without-switch) → (let a = k.before.before.args in k.without-switch.result.count ≡ length (withoutSwitch (drop a.given (owed a.self))))
+kept-count : (k : tie.After-without-switch) → (let a = k.before.before.args in k.without-switch.result.count ≡ length (without_switch (drop a.given (owed a.self))))
 kept-count k = sym (length-owed k.without-switch.result) ∙ ap length k.without-switch.ensures
 
 ended-count : (x : tie.After-expired) → (let a = x.before.args in x.expired.result.count ≡ length (expired a.number.0 (drop a.given (owed a.self)) (view a.timers)))
@@ -36,7 +36,7 @@ joined-requires c κs =
     let x = c.before in
     let s = x.before in
     let a = s.args in
-    let few = filter-few (λ i. expiresAt a.number.0 (slot (view a.timers) i) && not (owesExpire (drop a.given (owed a.self)) i)) (up_to timerCount) in
+    let few = filter-few (λ i. expires_at a.number.0 (slot (view a.timers) i) && not (owes_expire (drop a.given (owed a.self)) i)) (up_to timer_count) in
     (omega (arith, ended-count x, few), omega (arith, ended-count x, kept-count c, s.requires.room))
 
 joined-requires-2 : tie.Need-joined-requires-2
@@ -56,7 +56,7 @@ returns c =
     let l = drop a.given (owed a.self) in
     c.joined2.ensures
     ∙ ap (λ m. m ++ map Ready (queued a.woken)) (j.joined.ensures ∙ ap₂ (λ m ts. m ++ map Expire ts) k.without-switch.ensures x.expired.ensures)
-    ∙ append_assoc (withoutSwitch l) (map Expire (expired a.number.0 l (view a.timers))) (map Ready (queued a.woken))
+    ∙ append_assoc (without_switch l) (map Expire (expired a.number.0 l (view a.timers))) (map Ready (queued a.woken))
 
 pub ticked-spec : {M : Type 1} → statement M
 ticked-spec = tie.close (tie.spec expired-requires without-switch-requires joined-requires joined-requires-2 returns)

@@ -10,48 +10,48 @@ use borrow.Author.Tests.{eq-eqb, ne_eqb}
 use lib.Dec.{eqb}
 use lib.ListN.{length, drop, get_or, set, length-set, length-replicate}
 use Rattle.model.specs.Records as records
-use Rattle.model.specs.State.{withoutSwitch}
+use Rattle.model.specs.State.{without_switch}
 use Rattle.model.proofs.Loops.{stored_next}
 use Rattle.due.specs.declared.reports.Report.{Report}
 use Rattle.due.specs.declared.reports.Reports.{Reports}
-use Rattle.due.specs.Lists.{reportRoom, reportOf, noReport, owed}
-use Rattle.due.proofs.ReportKinds.{switch-is}
-use Rattle.due.proofs.Places.{none-due, next-due}
+use Rattle.due.specs.Lists.{report_room, report_of, no_report, owed}
+use Rattle.due.proofs.ReportKinds.{switch_is}
+use Rattle.due.proofs.Places.{none_due, next_due}
 use Rattle.due.proofs.reports.Reports.without_switch.Statement.{statement}
 use Rattle.due.proofs.reports.Reports.without_switch.Tie as tie
 
 module _ (rs : Reports) where
   abbrev entry : ℕ → Report
-  entry i = get_or rs.items i noReport
+  entry i = get_or rs.items i no_report
 
   -- those from i on but a Switch
   abbrev from : ℕ → List records.Report
-  from i = withoutSwitch (drop i (owed rs))
+  from i = without_switch (drop i (owed rs))
 
-  turn : (i : ℕ) → i < rs.count → from i ≡ cond (not (eqb (entry i).kind 17)) (reportOf (entry i) ∷ from (i + 1)) (from (i + 1))
-  turn i h = ap withoutSwitch (next-due entry rs.count i h) ∙ ap (λ b. cond (not b) (reportOf (entry i) ∷ from (i + 1)) (from (i + 1))) (switch-is (entry i))
+  turn : (i : ℕ) → i < rs.count → from i ≡ cond (not (eqb (entry i).kind 17)) (report_of (entry i) ∷ from (i + 1)) (from (i + 1))
+  turn i h = ap without_switch (next_due entry rs.count i h) ∙ ap (λ b. cond (not b) (report_of (entry i) ∷ from (i + 1)) (from (i + 1))) (switch_is (entry i))
 
   done : (i : ℕ) → rs.count ≤ i → from i ≡ []
-  done i h = ap withoutSwitch (none-due entry rs.count i h)
+  done i h = ap without_switch (none_due entry rs.count i h)
 
   -- this one is stored, or it is a Switch
   module _ (items : List Report) (n given i : ℕ) (h : i < rs.count) where
-    stored : length items ≡ reportRoom → n < reportRoom → (entry i).kind ≢ 17
+    stored : length items ≡ report_room → n < report_room → (entry i).kind ≢ 17
         → owed (record { items = items; count = n }) ++ from i ≡ from given
         → owed (record { items = set items n (entry i); count = n + 1 }) ++ from (i + 1) ≡ from given
     stored e b d q =
-        ap (λ l. l ++ from (i + 1)) (stored_next reportOf noReport (entry i) items n (omega (arith, e, b)))
-        ∙ append_assoc (owed (record { items = items; count = n })) (reportOf (entry i) ∷ []) (from (i + 1))
-        ∙ ap (λ l. owed (record { items = items; count = n }) ++ l) (ap (λ b. cond (not b) (reportOf (entry i) ∷ from (i + 1)) (from (i + 1))) (sym (ne_eqb (entry i).kind 17 d)) ∙ sym (turn i h))
+        ap (λ l. l ++ from (i + 1)) (stored_next report_of no_report (entry i) items n (omega (arith, e, b)))
+        ∙ append_assoc (owed (record { items = items; count = n })) (report_of (entry i) ∷ []) (from (i + 1))
+        ∙ ap (λ l. owed (record { items = items; count = n }) ++ l) (ap (λ b. cond (not b) (report_of (entry i) ∷ from (i + 1)) (from (i + 1))) (sym (ne_eqb (entry i).kind 17 d)) ∙ sym (turn i h))
         ∙ q
 
     skipped : (entry i).kind ≡ 17 → owed (record { items = items; count = n }) ++ from i ≡ from given → owed (record { items = items; count = n }) ++ from (i + 1) ≡ from given
     skipped e q =
-        ap (λ l. owed (record { items = items; count = n }) ++ l) (ap (λ b. cond (not b) (reportOf (entry i) ∷ from (i + 1)) (from (i + 1))) (sym (eq-eqb (entry i).kind 17 e)) ∙ sym (turn i h)) ∙ q
+        ap (λ l. owed (record { items = items; count = n }) ++ l) (ap (λ b. cond (not b) (report_of (entry i) ∷ from (i + 1)) (from (i + 1))) (sym (eq-eqb (entry i).kind 17 e)) ∙ sym (turn i h)) ∙ q
 
 abbrev invariant-loop : tie.invariant-loop
 invariant-loop given all count items₀ n₀ i₀ items n i =
-    (given ≤ i) × (n + given ≤ i) × (length items ≡ reportRoom) × (let rs : Reports = record { items = all; count = count } in owed (record { items = items; count = n }) ++ from rs i ≡ from rs given)
+    (given ≤ i) × (n + given ≤ i) × (length items ≡ report_room) × (let rs : Reports = record { items = all; count = count } in owed (record { items = items; count = n }) ++ from rs i ≡ from rs given)
 
 abbrev decreases-loop : tie.decreases-loop
 decreases-loop given all count items₀ n₀ i₀ items n i = count - i
@@ -60,10 +60,10 @@ of-requires : tie.Need-of-requires invariant-loop decreases-loop
 of-requires c κs = tt
 
 loop-holds : tie.Need-loop-init invariant-loop decreases-loop
-loop-holds c = (omega arith, omega arith, length-replicate reportRoom c.of.result, refl)
+loop-holds c = (omega arith, omega arith, length-replicate report_room c.of.result, refl)
 
 -- those left are in the array, and as many places are free as are read
-room : (l : tie.In-loop invariant-loop decreases-loop) → l.before.loop.i < reportRoom
+room : (l : tie.In-loop invariant-loop decreases-loop) → l.before.loop.i < report_room
 room l =
     let k = l.before in
     omega (arith, l.loop-test.true, k.loop.invariant.0, k.before.before.before.requires (omega (arith, l.loop-test.true, k.loop.invariant.0)))
@@ -74,7 +74,7 @@ mul-r c = record { fits = omega (arith, room c) }
 array-copy-out-r : tie.Need-array-copy-out-r invariant-loop decreases-loop
 array-copy-out-r c = room c
 
-place : (c : tie.Then1 invariant-loop decreases-loop) → c.before.before.before.before.loop.n < reportRoom
+place : (c : tie.Then1 invariant-loop decreases-loop) → c.before.before.before.before.loop.n < report_room
 place c = let l = c.before.before.before in omega (arith, room l, l.before.loop.invariant.1)
 
 mul-items : tie.Need-overflow-mul-items invariant-loop decreases-loop

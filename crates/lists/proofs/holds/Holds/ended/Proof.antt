@@ -7,10 +7,10 @@ use native.Mathlib.Omega.{arith}
 use borrow.Author.Rules.{rules}
 use borrow.Author.Tests.{eq-eqb}
 use Rattle.model.specs.Searches.{filter}
-use Rattle.model.specs.State.{isHold}
+use Rattle.model.specs.State.{is_hold}
 use Rattle.model.specs.Formed.{times}
-use Rattle.lists.specs.Lists.{heldIn}
-use Rattle.lists.proofs.Holdings.{firstHold, turn, only-first}
+use Rattle.lists.specs.Lists.{held_in}
+use Rattle.lists.proofs.Holdings.{first_hold, turn, only_first}
 use Rattle.lists.proofs.holds.Holds.ended.Statement.{statement}
 use Rattle.lists.proofs.holds.Holds.ended.Tie as tie
 
@@ -30,11 +30,11 @@ returns c =
     let b = k.before.before.before.before.before in
     let a = b.args in
     let hs = a.self in
-    let rest = heldIn (hs.count - 1) (hs.sections / 16) (hs.threads / 16) in
-    let p = isHold a.section a.thread in
+    let rest = held_in (hs.count - 1) (hs.sections / 16) (hs.threads / 16) in
+    let p = is_hold a.section a.thread in
     let whole = turn (filter (λ h. not (p h))) hs.count hs.sections hs.threads (omega (arith, k.if1.true)) in
-    let few : times p (firstHold hs.sections hs.threads ∷ rest) ≤ 1 = omega (arith, b.requires.1, turn (times p) hs.count hs.sections hs.threads (omega (arith, k.if1.true))) in
-    sym (whole ∙ only-first p (firstHold hs.sections hs.threads) rest (rw (eq-eqb _ _ w.before.if2.true) w.if3.true) few)
+    let few : times p (first_hold hs.sections hs.threads ∷ rest) ≤ 1 = omega (arith, b.requires.1, turn (times p) hs.count hs.sections hs.threads (omega (arith, k.if1.true))) in
+    sym (whole ∙ only_first p (first_hold hs.sections hs.threads) rest (rw (eq-eqb _ _ w.before.if2.true) w.if3.true) few)
 
 others-requires : tie.Need-others-requires
 others-requires c κs = search rules

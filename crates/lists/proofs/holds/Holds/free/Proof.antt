@@ -4,13 +4,13 @@ use Prim.Native.Nat.{ℕ, ◌/◌}
 use native.Mathlib.Omega.{arith}
 use borrow.Author.Rules.{rules}
 use borrow.Author.Tests.{eq-eqb, ne_eqb}
-use Rattle.lists.specs.Lists.{heldIn, held}
-use Rattle.lists.proofs.Holdings.{isOfThread, AnyLeft, missed, found, none_found}
+use Rattle.lists.specs.Lists.{held_in, held}
+use Rattle.lists.proofs.Holdings.{is_of_thread, AnyLeft, missed, found, none_found}
 use Rattle.lists.proofs.holds.Holds.free.Statement.{statement}
 use Rattle.lists.proofs.holds.Holds.free.Tie as tie
 
 abbrev invariant-loop : tie.invariant-loop
-invariant-loop thread ts₀ left₀ ts left = (ss₀ : ℕ) → (ss : ℕ) × AnyLeft (isOfThread thread) (heldIn left₀ ss₀ ts₀) left ss ts
+invariant-loop thread ts₀ left₀ ts left = (ss₀ : ℕ) → (ss : ℕ) × AnyLeft (is_of_thread thread) (held_in left₀ ss₀ ts₀) left ss ts
 
 abbrev decreases-loop : tie.decreases-loop
 decreases-loop thread ts₀ left₀ ts left = left
@@ -29,7 +29,7 @@ returns c =
     let k = c.before.before in
     let a = k.before.args in
     let i = k.loop.invariant a.self.sections in
-    found (isOfThread a.thread) (held a.self) k.loop.left i.0 k.loop.ts (omega arith) i.1 (eq-eqb _ _ c.if1.true)
+    found (is_of_thread a.thread) (held a.self) k.loop.left i.0 k.loop.ts (omega arith) i.1 (eq-eqb _ _ c.if1.true)
 
 loop-less : tie.Need-loop-smaller invariant-loop decreases-loop
 loop-less c = search rules
@@ -39,14 +39,14 @@ loop-again c = λ ss₀.
     let k = c.before.before in
     let a = k.before.args in
     let i = k.loop.invariant ss₀ in
-    (i.0 / 16, missed (isOfThread a.thread) (heldIn a.self.count ss₀ a.self.threads) k.loop.left i.0 k.loop.ts (omega arith) i.1 (ne_eqb _ _ c.if1.false))
+    (i.0 / 16, missed (is_of_thread a.thread) (held_in a.self.count ss₀ a.self.threads) k.loop.left i.0 k.loop.ts (omega arith) i.1 (ne_eqb _ _ c.if1.false))
 
 returns-2 : tie.Need-returns-2 invariant-loop decreases-loop
 returns-2 c =
     let k = c.before in
     let a = k.before.args in
     let i = k.loop.invariant a.self.sections in
-    none_found (isOfThread a.thread) (held a.self) k.loop.left i.0 k.loop.ts (omega arith) i.1
+    none_found (is_of_thread a.thread) (held a.self) k.loop.left i.0 k.loop.ts (omega arith) i.1
 
 pub free_spec : {M : Type 1} → statement M
 free_spec =

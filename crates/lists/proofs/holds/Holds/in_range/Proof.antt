@@ -7,17 +7,17 @@ use native.Mathlib.Omega.{arith}
 use borrow.Author.Rules.{rules}
 use borrow.Author.Tests.{leb-true, leb-false, lt-ltb, le-ltb}
 use Rattle.model.specs.State as state
-use Rattle.model.specs.Formed.{holdInRange}
-use Rattle.lists.specs.Lists.{heldIn, held}
+use Rattle.model.specs.Formed.{hold_in_range}
+use Rattle.lists.specs.Lists.{held_in, held}
 use Rattle.lists.proofs.Holdings.{AnyLeft, missed, found, none_found, all_none}
 use Rattle.lists.proofs.holds.Holds.in_range.Statement.{statement}
 use Rattle.lists.proofs.holds.Holds.in_range.Tie as tie
 
-abbrev isOut : (threads sections : ℕ) → state.Hold → Bool
-isOut threads sections h = not (holdInRange threads sections h)
+abbrev is_out : (threads sections : ℕ) → state.Hold → Bool
+is_out threads sections h = not (hold_in_range threads sections h)
 
 abbrev invariant-loop : tie.invariant-loop
-invariant-loop threads sections ss₀ ts₀ left₀ ss ts left = AnyLeft (isOut threads sections) (heldIn left₀ ss₀ ts₀) left ss ts
+invariant-loop threads sections ss₀ ts₀ left₀ ss ts left = AnyLeft (is_out threads sections) (held_in left₀ ss₀ ts₀) left ss ts
 
 abbrev decreases-loop : tie.decreases-loop
 decreases-loop threads sections ss₀ ts₀ left₀ ss ts left = left
@@ -34,12 +34,12 @@ returns c =
     let a = k.before.args in
     let s = k.loop.ss % 16 in
     let t = k.loop.ts % 16 in
-    let out = found (isOut a.threads a.sections) (held a.self) k.loop.left k.loop.ss k.loop.ts (omega arith) k.loop.invariant in
+    let out = found (is_out a.threads a.sections) (held a.self) k.loop.left k.loop.ss k.loop.ts (omega arith) k.loop.invariant in
     ⊎_elim
     (λ w. out (rw (le-ltb s a.sections w.taken)))
     (λ w. out (rw (lt-ltb s a.sections w.0.left, le-ltb t a.threads (leb-true a.threads t w.1.taken))))
     c.if1.branch
-    ∙ sym (all_none (holdInRange a.threads a.sections) (held a.self))
+    ∙ sym (all_none (hold_in_range a.threads a.sections) (held a.self))
 
 loop-less : tie.Need-loop-smaller invariant-loop decreases-loop
 loop-less c = search rules
@@ -50,15 +50,15 @@ loop-again c =
     let a = k.before.args in
     let s = k.loop.ss % 16 in
     let t = k.loop.ts % 16 in
-    missed (isOut a.threads a.sections) (held a.self) k.loop.left k.loop.ss k.loop.ts (omega arith) k.loop.invariant
+    missed (is_out a.threads a.sections) (held a.self) k.loop.left k.loop.ss k.loop.ts (omega arith) k.loop.invariant
     (rw (lt-ltb s a.sections c.before.if1.false, lt-ltb t a.threads (leb-false a.threads t c.if2.false)))
 
 returns-2 : tie.Need-returns-2 invariant-loop decreases-loop
 returns-2 c =
     let k = c.before in
     let a = k.before.args in
-    none_found (isOut a.threads a.sections) (held a.self) k.loop.left k.loop.ss k.loop.ts (omega arith) k.loop.invariant
-    ∙ sym (all_none (holdInRange a.threads a.sections) (held a.self))
+    none_found (is_out a.threads a.sections) (held a.self) k.loop.left k.loop.ss k.loop.ts (omega arith) k.loop.invariant
+    ∙ sym (all_none (hold_in_range a.threads a.sections) (held a.self))
 
 pub in-range-spec : {M : Type 1} → statement M
 in-range-spec =

@@ -5,14 +5,14 @@ use Prim.Native.Nat.{◌-◌, ◌/◌}
 use native.Mathlib.Omega.{arith}
 use borrow.Author.Rules.{rules}
 use borrow.Author.Tests.{eq-eqb, ne_eqb}
-use Rattle.model.specs.Rules.{lastTaken}
-use Rattle.lists.specs.Lists.{numbered, heldIn, held}
-use Rattle.lists.proofs.Holdings.{firstHold, turn, done}
+use Rattle.model.specs.Rules.{last_taken}
+use Rattle.lists.specs.Lists.{numbered, held_in, held}
+use Rattle.lists.proofs.Holdings.{first_hold, turn, done}
 use Rattle.lists.proofs.holds.Holds.last_taken.Statement.{statement}
 use Rattle.lists.proofs.holds.Holds.last_taken.Tie as tie
 
 abbrev invariant-loop : tie.invariant-loop
-invariant-loop thread ss₀ ts₀ left₀ ss ts left = lastTaken (heldIn left ss ts) thread ≡ lastTaken (heldIn left₀ ss₀ ts₀) thread
+invariant-loop thread ss₀ ts₀ left₀ ss ts left = last_taken (held_in left ss ts) thread ≡ last_taken (held_in left₀ ss₀ ts₀) thread
 
 abbrev decreases-loop : tie.decreases-loop
 decreases-loop thread ss₀ ts₀ left₀ ss ts left = left
@@ -31,11 +31,11 @@ sub-left c = search rules
 
 -- the first hold of those left decides, or the others
 turned : (c : tie.In-loop invariant-loop decreases-loop)
-    → lastTaken (firstHold c.before.loop.ss c.before.loop.ts ∷ heldIn (c.before.loop.left - 1) (c.before.loop.ss / 16) (c.before.loop.ts / 16)) c.before.before.args.thread
-    ≡ lastTaken (held c.before.before.args.self) c.before.before.args.thread
+    → last_taken (first_hold c.before.loop.ss c.before.loop.ts ∷ held_in (c.before.loop.left - 1) (c.before.loop.ss / 16) (c.before.loop.ts / 16)) c.before.before.args.thread
+    ≡ last_taken (held c.before.before.args.self) c.before.before.args.thread
 turned c =
     let k = c.before in
-    sym (turn (λ l. lastTaken l k.before.args.thread) k.loop.left k.loop.ss k.loop.ts (omega arith)) ∙ k.loop.invariant
+    sym (turn (λ l. last_taken l k.before.args.thread) k.loop.left k.loop.ss k.loop.ts (omega arith)) ∙ k.loop.invariant
 
 returns : tie.Need-returns invariant-loop decreases-loop
 returns c = ap numbered (rw (eq-eqb _ _ c.if1.true) at (turned c.before))
@@ -50,7 +50,7 @@ loop-again c =
 returns-2 : tie.Need-returns-2 invariant-loop decreases-loop
 returns-2 c =
     let k = c.before in
-    ap numbered (sym (done (λ l. lastTaken l k.before.args.thread) k.loop.left k.loop.ss k.loop.ts (omega arith)) ∙ k.loop.invariant)
+    ap numbered (sym (done (λ l. last_taken l k.before.args.thread) k.loop.left k.loop.ss k.loop.ts (omega arith)) ∙ k.loop.invariant)
 
 pub last-taken-spec : {M : Type 1} → statement M
 last-taken-spec =

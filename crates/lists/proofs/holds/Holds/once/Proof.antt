@@ -9,15 +9,15 @@ use borrow.Author.Rules.{rules}
 use borrow.Author.Tests.{eq-eqb, ne_eqb, le-leb}
 use lib.Dec.{T, eqb, leb, leb→le, T_not}
 use Rattle.model.specs.Searches.{all, up_to}
-use Rattle.model.specs.Formed.{times, heldOnce}
-use Rattle.model.proofs.Tests.{is_true, is_false, from-true, not-not, split, equal?}
-use Rattle.model.proofs.Searches.{all-at, all-fails, in-upTo, upTo-at}
+use Rattle.model.specs.Formed.{times, held_once}
+use Rattle.model.proofs.Tests.{is_true, is_false, from_true, not_not, split, equal?}
+use Rattle.model.proofs.Searches.{all_at, all_fails, in_up_to, up_to_at}
 use Rattle.lists.specs.declared.holds.Holds.{Holds}
-use Rattle.lists.specs.Words.{nibble, withNibble, nibbles}
+use Rattle.lists.specs.Words.{nibble, with_nibble, nibbles}
 use Rattle.lists.specs.Lists.{held}
-use Rattle.lists.proofs.Holdings.{isOfSection, section-times}
+use Rattle.lists.proofs.Holdings.{is_of_section, section_times}
 use Rattle.lists.proofs.Queues.{first, ended, marked}
-use Rattle.lists.proofs.Words.{zero-nibble, read_set, read-other}
+use Rattle.lists.proofs.Words.{zero_nibble, read_set, read_other}
 use Rattle.lists.proofs.holds.Holds.once.Statement.{statement}
 use Rattle.lists.proofs.holds.Holds.once.Tie as tie
 
@@ -32,36 +32,36 @@ abbrev decreases-loop : tie.decreases-loop
 decreases-loop sections met₀ rest₀ left₀ met rest left = left
 
 -- a section that was not noted is
-noted : (met k : ℕ) (l : List ℕ) → nibble met k ≡ 0 → (s : ℕ) → nibble (withNibble met k 1) s + often s l ≡ nibble met s + often s (k ∷ l)
+noted : (met k : ℕ) (l : List ℕ) → nibble met k ≡ 0 → (s : ℕ) → nibble (with_nibble met k 1) s + often s l ≡ nibble met s + often s (k ∷ l)
 noted met k l e s =
     let z : nibble met k + 1 ≡ 1 = omega (arith, e) in
-    ap (λ v. nibble (withNibble met k v) s + often s l) (sym z) ∙ marked met l k s (omega (arith, e))
+    ap (λ v. nibble (with_nibble met k v) s + often s l) (sym z) ∙ marked met l k s (omega (arith, e))
 
-noted-once : (met k s : ℕ) → nibble met s ≤ 1 → nibble (withNibble met k 1) s ≤ 1
-noted-once met k s h = elim (equal? s k) [ inl e ↦ rw e (omega (arith, read_set met k 1 (omega arith))) | inr n ↦ omega (arith, h, read-other met k s 1 (omega arith) n) ]
+noted-once : (met k s : ℕ) → nibble met s ≤ 1 → nibble (with_nibble met k 1) s ≤ 1
+noted-once met k s h = elim (equal? s k) [ inl e ↦ rw e (omega (arith, read_set met k 1 (omega arith))) | inr n ↦ omega (arith, h, read_other met k s 1 (omega arith) n) ]
 
 module _ (sections : ℕ) (hs : Holds) where
   abbrev found : (section : ℕ) → ℕ
   found s = often s (nibbles hs.count hs.sections)
 
   abbrev test : (section : ℕ) → Bool
-  test s = leb (times (isOfSection s) (held hs)) 1
+  test s = leb (times (is_of_section s) (held hs)) 1
 
-  all_once : ((s : ℕ) → s < sections → found s ≤ 1) → true ≡ heldOnce sections (held hs)
-  all_once h = sym (is_true (all test (up_to sections)) (not-not (all test (up_to sections)) (λ b. let r = all-fails test (up_to sections) b in T_not (test r.0) r.2 (passes r.0 (h r.0 (upTo-at sections r.1))))))
+  all_once : ((s : ℕ) → s < sections → found s ≤ 1) → true ≡ held_once sections (held hs)
+  all_once h = sym (is_true (all test (up_to sections)) (not_not (all test (up_to sections)) (λ b. let r = all_fails test (up_to sections) b in T_not (test r.0) r.2 (passes r.0 (h r.0 (up_to_at sections r.1))))))
     where
       passes : (s : ℕ) → found s ≤ 1 → T (test s)
-      passes s k = from-true (test s) (le-leb (times (isOfSection s) (held hs)) 1 (omega (arith, k, section-times s hs.count hs.sections hs.threads)))
+      passes s k = from_true (test s) (le-leb (times (is_of_section s) (held hs)) 1 (omega (arith, k, section_times s hs.count hs.sections hs.threads)))
 
-  twice : (s : ℕ) → s < sections → 1 < found s → false ≡ heldOnce sections (held hs)
+  twice : (s : ℕ) → s < sections → 1 < found s → false ≡ held_once sections (held hs)
   twice s h k =
       elim (split (all test (up_to sections))) [
-        | inl a ↦ absurd (omega (arith, k, section-times s hs.count hs.sections hs.threads, leb→le (times (isOfSection s) (held hs)) 1 (all-at test (up_to sections) a (in-upTo sections s h))))
+        | inl a ↦ absurd (omega (arith, k, section_times s hs.count hs.sections hs.threads, leb→le (times (is_of_section s) (held hs)) 1 (all_at test (up_to sections) a (in_up_to sections s h))))
         | inr b ↦ sym (is_false (all test (up_to sections)) b)
       ]
 
 loop-holds : tie.Need-loop-init invariant-loop decreases-loop
-loop-holds c s h = (omega (arith, zero-nibble s), omega (arith, zero-nibble s))
+loop-holds c s h = (omega (arith, zero_nibble s), omega (arith, zero_nibble s))
 
 cast-s : tie.Need-overflow-cast-s invariant-loop decreases-loop
 cast-s c = search rules

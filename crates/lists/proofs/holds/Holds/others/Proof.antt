@@ -7,15 +7,15 @@ use native.Mathlib.Omega.{arith}
 use borrow.Author.Rules.{rules}
 use borrow.Author.Tests.{eq-eqb, ne_eqb}
 use Rattle.model.specs.State as state
-use Rattle.model.specs.State.{isHold}
-use Rattle.lists.specs.Lists.{heldIn, held}
-use Rattle.lists.proofs.Holdings.{firstHold, KeptLeft, kept, dropped, all-kept}
+use Rattle.model.specs.State.{is_hold}
+use Rattle.lists.specs.Lists.{held_in, held}
+use Rattle.lists.proofs.Holdings.{first_hold, KeptLeft, kept, dropped, all_kept}
 use Rattle.lists.proofs.holds.Holds.others.Statement.{statement}
 use Rattle.lists.proofs.holds.Holds.others.Tie as tie
 
 abbrev invariant-loop : tie.invariant-loop
 invariant-loop section thread top ss₀ ts₀ left₀ sections₀ threads₀ n₀ ss ts left sections threads n =
-    (n + left ≤ 16) × KeptLeft (λ h. not (isHold section thread h)) (heldIn left₀ ss₀ ts₀) n sections threads left ss ts
+    (n + left ≤ 16) × KeptLeft (λ h. not (is_hold section thread h)) (held_in left₀ ss₀ ts₀) n sections threads left ss ts
 
 abbrev decreases-loop : tie.decreases-loop
 decreases-loop section thread top ss₀ ts₀ left₀ sections₀ threads₀ n₀ ss ts left sections threads n = left
@@ -52,10 +52,10 @@ loop-less c = search rules
 
 -- whether a hold stays, as the arguments have it
 abbrev stays : tie.At-loop invariant-loop decreases-loop → state.Hold → Bool
-stays k h = not (isHold k.before.before.args.section k.before.before.args.thread h)
+stays k h = not (is_hold k.before.before.args.section k.before.before.args.thread h)
 
 -- the test's flag is false where the hold stays
-flag : (c : tie.Joined1 invariant-loop decreases-loop) → not c.if1.if2 ≡ stays c.before.before (firstHold c.before.before.loop.ss c.before.before.loop.ts)
+flag : (c : tie.Joined1 invariant-loop decreases-loop) → not c.if1.if2 ≡ stays c.before.before (first_hold c.before.before.loop.ss c.before.before.loop.ts)
 flag c =
     ⊎_elim (λ w. rw (eq-eqb _ _ w.0.taken) (ap not w.1)) (λ w. rw (ne_eqb _ _ w.0.left) (ap not (w.1 ∙ ne_eqb _ _ w.0.left))) c.if1.branch
 
@@ -80,7 +80,7 @@ returns : tie.Need-returns invariant-loop decreases-loop
 returns c =
     let k = c.before in
     let l = k.loop in
-    all-kept (stays k) (held k.before.before.args.self) l.n l.sections l.threads l.left l.ss l.ts (omega arith) l.invariant.1
+    all_kept (stays k) (held k.before.before.args.self) l.n l.sections l.threads l.left l.ss l.ts (omega arith) l.invariant.1
 
 pub others-spec : {M : Type 1} → statement M
 others-spec =

@@ -1,7 +1,7 @@
 -- `Holds::push` meets its contract: a number put in front of each word is a hold put in front of the list, and the owner is found by one comparison.
 use native.Mathlib.Omega.{arith}
 use borrow.Author.Rules.{rules}
-use Rattle.lists.proofs.Holdings.{hold-in-front}
+use Rattle.lists.proofs.Holdings.{hold_in_front}
 use Rattle.lists.proofs.holds.Holds.push.Statement.{statement}
 use Rattle.lists.proofs.holds.Holds.push.Tie as tie
 
@@ -23,7 +23,7 @@ returns c =
     let a = s.before.args in
     let h = a.self in (
       rw (s.in-front.ensures, c.before.before.in-front2.ensures)
-          (hold-in-front h.count h.sections h.threads a.section a.thread (omega arith) (omega arith) (omega arith)),
+          (hold_in_front h.count h.sections h.threads a.section a.thread (omega arith) (omega arith) (omega arith)),
       c.gained.ensures,
     )
 

@@ -4,13 +4,13 @@ use mathlib.Core.Logic.{inl, inr, ⊎_elim}
 use native.Mathlib.Omega.{arith}
 use borrow.Author.Rules.{rules}
 use borrow.Author.Tests.{ltb-true, ltb-false}
-use Rattle.lists.specs.Lists.{heldIn, held, ceilingIn}
-use Rattle.lists.proofs.Holdings.{TopLeft, top-new, top-stays, top-found}
+use Rattle.lists.specs.Lists.{held_in, held, ceiling_in}
+use Rattle.lists.proofs.Holdings.{TopLeft, top_new, top_stays, top_found}
 use Rattle.lists.proofs.holds.Holds.walk.Statement.{statement}
 use Rattle.lists.proofs.holds.Holds.walk.Tie as tie
 
 abbrev invariant-loop : tie.invariant-loop
-invariant-loop ceilings all ss₀ ts₀ left₀ owner₀ top₀ ss ts left owner top = TopLeft (ceilingIn all) (heldIn left₀ ss₀ ts₀) left ss ts owner top
+invariant-loop ceilings all ss₀ ts₀ left₀ owner₀ top₀ ss ts left owner top = TopLeft (ceiling_in all) (held_in left₀ ss₀ ts₀) left ss ts owner top
 
 abbrev decreases-loop : tie.decreases-loop
 decreases-loop ceilings all ss₀ ts₀ left₀ owner₀ top₀ ss ts left owner top = left
@@ -35,7 +35,7 @@ loop-again c =
     let k = c.before.before in
     let a = k.before.before.args in
     let l = k.loop in
-    top-new (ceilingIn a.ceilings.now) (held a.self) l.left l.ss l.ts l.owner l.top (omega arith) l.invariant
+    top_new (ceiling_in a.ceilings.now) (held a.self) l.left l.ss l.ts l.owner l.top (omega arith) l.invariant
     (⊎_elim (λ w. inl w.taken) (λ w. inr (ltb-true _ _ w.1.taken)) c.if1.branch)
 
 loop-less-2 : tie.Need-loop-smaller-2 invariant-loop decreases-loop
@@ -46,14 +46,14 @@ loop-again-2 c =
     let k = c.before.before.before in
     let a = k.before.before.args in
     let l = k.loop in
-    top-stays (ceilingIn a.ceilings.now) (held a.self) l.left l.ss l.ts l.owner l.top (omega arith) l.invariant c.before.if1.false (ltb-false _ _ c.if2.false)
+    top_stays (ceiling_in a.ceilings.now) (held a.self) l.left l.ss l.ts l.owner l.top (omega arith) l.invariant c.before.if1.false (ltb-false _ _ c.if2.false)
 
 returns : tie.Need-returns invariant-loop decreases-loop
 returns c =
     let k = c.before in
     let a = k.before.before.args in
     let l = k.loop in
-    top-found (ceilingIn a.ceilings.now) (held a.self) l.left l.ss l.ts l.owner l.top (omega arith) l.invariant
+    top_found (ceiling_in a.ceilings.now) (held a.self) l.left l.ss l.ts l.owner l.top (omega arith) l.invariant
 
 pub walk-spec : {M : Type 1} → statement M
 walk-spec =

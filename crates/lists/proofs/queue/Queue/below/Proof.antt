@@ -4,14 +4,14 @@ use Prim.Native.Nat.{◌%◌}
 use native.Mathlib.Omega.{arith}
 use borrow.Author.Rules.{rules}
 use borrow.Author.Tests.{lt-ltb, le-ltb}
-use Rattle.model.specs.Formed.{areThreads}
+use Rattle.model.specs.Formed.{are_threads}
 use Rattle.lists.specs.Words.{nibbles}
 use Rattle.lists.proofs.Queues.{first, ended}
 use Rattle.lists.proofs.queue.Queue.below.Statement.{statement}
 use Rattle.lists.proofs.queue.Queue.below.Tie as tie
 
 abbrev invariant-loop : tie.invariant-loop
-invariant-loop threads rest₀ left₀ rest left = areThreads threads (nibbles left rest) ≡ areThreads threads (nibbles left₀ rest₀)
+invariant-loop threads rest₀ left₀ rest left = are_threads threads (nibbles left rest) ≡ are_threads threads (nibbles left₀ rest₀)
 
 abbrev decreases-loop : tie.decreases-loop
 decreases-loop threads rest₀ left₀ rest left = left

@@ -5,10 +5,10 @@ use Prim.Native.Nat.{◌-◌, ◌/◌, ◌%◌, ◌<◌}
 use native.Mathlib.Omega.{arith}
 use borrow.Author.Rules.{rules}
 use borrow.Author.Tests.{ne_eqb}
-use Rattle.model.specs.Searches.{firstGreatest}
+use Rattle.model.specs.Searches.{first_greatest}
 use Rattle.lists.specs.Words.{nibbles, entry_of}
-use Rattle.lists.specs.Lists.{numbered, currentIn, queued}
-use Rattle.lists.proofs.Queues.{first, ended, overtaken, replaced, stayed, nobody, base-current}
+use Rattle.lists.specs.Lists.{numbered, current_in, queued}
+use Rattle.lists.proofs.Queues.{first, ended, overtaken, replaced, stayed, nobody, base_current}
 use Rattle.lists.proofs.queue.Queue.chosen.Statement.{statement}
 use Rattle.lists.proofs.queue.Queue.chosen.Tie as tie
 use Rattle.lists.proofs.queue.Queue.chosen.Reads as reads
@@ -17,8 +17,8 @@ use Rattle.lists.proofs.queue.current.Reads as current-reads
 
 abbrev invariant-loop : tie.invariant-loop
 invariant-loop owner urgency bases raised rest₀ left₀ who₀ top₀ rest left who top =
-    let f = currentIn (entry_of bases) owner urgency in
-    overtaken f who top (firstGreatest f (nibbles left rest)) ≡ numbered (firstGreatest f (nibbles left₀ rest₀))
+    let f = current_in (entry_of bases) owner urgency in
+    overtaken f who top (first_greatest f (nibbles left rest)) ≡ numbered (first_greatest f (nibbles left₀ rest₀))
 
 abbrev decreases-loop : tie.decreases-loop
 decreases-loop owner urgency bases raised rest₀ left₀ who₀ top₀ rest left who top = left
@@ -30,8 +30,8 @@ loop-holds : tie.Need-loop-init invariant-loop decreases-loop
 loop-holds c =
     let a = c.before.args in
     let b = entry_of a.t2 in
-    nobody (currentIn b a.owner a.urgency) (queued a.self)
-    (λ t m. let k : 0 < b t = c.before.requires.1.at t m in omega (arith, base-current b a.owner a.urgency t))
+    nobody (current_in b a.owner a.urgency) (queued a.self)
+    (λ t m. let k : 0 < b t = c.before.requires.1.at t m in omega (arith, base_current b a.owner a.urgency t))
 
 cast_t : tie.Need-overflow-cast-t invariant-loop decreases-loop
 cast_t c = search rules
@@ -49,12 +49,12 @@ array-read-c c = search rules
 value : (c : lts.Joined2 (current-reads.Asked, current-reads.Learnt) reads.Pre reads.Post invariant-loop decreases-loop)
     → let k = c.before.before in
     let a = k.before.before.args in
-    c.if2.c ≡ currentIn (entry_of a.t2) a.owner a.urgency (k.loop.rest % 16)
+    c.if2.c ≡ current_in (entry_of a.t2) a.owner a.urgency (k.loop.rest % 16)
 value c =
     let k = c.before.before in
     let a = k.before.before.args in
     let t = k.loop.rest % 16 in
-    let f = currentIn (entry_of a.t2) a.owner a.urgency in
+    let f = current_in (entry_of a.t2) a.owner a.urgency in
     ⊎_elim
     (λ w.
     ⊎_elim
@@ -72,10 +72,10 @@ loop-again c =
     let k = c.before.before.before in
     let a = k.before.before.args in
     let l = k.loop in
-    let f = currentIn (entry_of a.t2) a.owner a.urgency in
+    let f = current_in (entry_of a.t2) a.owner a.urgency in
     let e = value c.before in
     rw e
-    (sym (replaced f l.who l.top (l.rest % 16) (firstGreatest f (nibbles (l.left - 1) (l.rest / 16))) (omega arith))
+    (sym (replaced f l.who l.top (l.rest % 16) (first_greatest f (nibbles (l.left - 1) (l.rest / 16))) (omega arith))
     ∙ (rw (first l.left l.rest (omega arith)) at l.invariant))
 
 loop-less-2 : tie.Need-loop-smaller-2 invariant-loop decreases-loop
@@ -86,9 +86,9 @@ loop-again-2 c =
     let k = c.before.before.before in
     let a = k.before.before.args in
     let l = k.loop in
-    let f = currentIn (entry_of a.t2) a.owner a.urgency in
+    let f = current_in (entry_of a.t2) a.owner a.urgency in
     let e = value c.before in
-    sym (stayed f l.who l.top (l.rest % 16) (firstGreatest f (nibbles (l.left - 1) (l.rest / 16))) (omega arith))
+    sym (stayed f l.who l.top (l.rest % 16) (first_greatest f (nibbles (l.left - 1) (l.rest / 16))) (omega arith))
     ∙ (rw (first l.left l.rest (omega arith)) at l.invariant)
 
 returns : tie.Need-returns invariant-loop decreases-loop

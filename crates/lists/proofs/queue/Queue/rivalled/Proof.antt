@@ -8,7 +8,7 @@ use borrow.Author.Tests.{eq-eqb, ne_eqb}
 use lib.Dec.{eqb}
 use Rattle.model.specs.Searches.{any}
 use Rattle.lists.specs.Words.{nibbles, entry_of}
-use Rattle.lists.specs.Lists.{currentIn}
+use Rattle.lists.specs.Lists.{current_in}
 use Rattle.lists.proofs.Queues.{first, ended}
 use Rattle.lists.proofs.queue.Queue.rivalled.Statement.{statement}
 use Rattle.lists.proofs.queue.Queue.rivalled.Tie as tie
@@ -19,7 +19,7 @@ rival value thread t = not (eqb t thread) && eqb (value t) (value thread)
 
 abbrev invariant-loop : tie.invariant-loop
 invariant-loop bases owner urgency thread c rest₀ left₀ rest left =
-    let p = rival (currentIn (entry_of bases) owner urgency) thread in
+    let p = rival (current_in (entry_of bases) owner urgency) thread in
     any p (nibbles left rest) ≡ any p (nibbles left₀ rest₀)
 
 abbrev decreases-loop : tie.decreases-loop
@@ -46,7 +46,7 @@ returns c =
     let l = k.loop in
     let a = k.before.before.args in
     let t = l.rest % 16 in
-    let f = currentIn (entry_of a.bases) a.owner a.urgency in
+    let f = current_in (entry_of a.bases) a.owner a.urgency in
     let e : f t ≡ f a.thread = sym c.before.current2.ensures ∙ c.if2.true ∙ k.before.current.ensures in
     rw (first l.left l.rest (omega arith), ne_eqb t a.thread c.before.before.if1.true, eq-eqb (f t) (f a.thread) e) at l.invariant
 
@@ -59,7 +59,7 @@ loop-again c =
     let l = k.loop in
     let a = k.before.before.args in
     let t = l.rest % 16 in
-    let f = currentIn (entry_of a.bases) a.owner a.urgency in
+    let f = current_in (entry_of a.bases) a.owner a.urgency in
     rw (first l.left l.rest (omega arith), ne_eqb t a.thread c.before.before.if1.true, ne_eqb (f t) (f a.thread) (λ e. c.if2.false (c.before.current2.ensures ∙ e ∙ sym k.before.current.ensures))) at l.invariant
 
 loop-less-2 : tie.Need-loop-smaller-2 invariant-loop decreases-loop

@@ -8,7 +8,7 @@ use lib.Dec.{eqb}
 use Rattle.model.specs.Searches.{without}
 use Rattle.model.specs.Formed.{times}
 use Rattle.lists.specs.Words.{nibbles}
-use Rattle.lists.proofs.Holdings.{only-first}
+use Rattle.lists.proofs.Holdings.{only_first}
 use Rattle.lists.proofs.Queues.{first}
 use Rattle.lists.proofs.queue.Queue.without.Statement.{statement}
 use Rattle.lists.proofs.queue.Queue.without.Tie as tie
@@ -29,7 +29,7 @@ returns c =
     let rest = nibbles (q.count - 1) (q.items / 16) in
     let turn = first q.count q.items k.if1.true in
     let few = subst (λ (l : List ℕ). times (λ u. eqb u t) l ≤ 1) turn b.requires.1 in
-    sym (ap (without t) turn ∙ only-first (λ u. eqb u t) (q.items % 16) rest (eq-eqb (q.items % 16) t w.if2.true) few)
+    sym (ap (without t) turn ∙ only_first (λ u. eqb u t) (q.items % 16) rest (eq-eqb (q.items % 16) t w.if2.true) few)
 
 others-requires : tie.Need-others-requires
 others-requires c κs = search rules

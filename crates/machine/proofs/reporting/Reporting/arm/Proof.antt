@@ -2,9 +2,9 @@
 use mathlib.Core.Path.{◌∙◌}
 use lib.Dec.{eqb}
 use Rattle.model.specs.Records as records
-use Rattle.machine.proofs.Asking.{arm-rule}
-use Rattle.machine.proofs.Outcomes.{caller-asked}
-use Rattle.machine.proofs.Timed.{no-late}
+use Rattle.machine.proofs.Asking.{arm_rule}
+use Rattle.machine.proofs.Outcomes.{caller_asked}
+use Rattle.machine.proofs.Timed.{no_late}
 use Rattle.machine.proofs.reporting.Reporting.arm.Statement.{statement}
 use Rattle.machine.proofs.reporting.Reporting.arm.Tie as tie
 
@@ -28,7 +28,7 @@ returns c =
     let s = r.before.before in
     let i = s.args.timer in
     c.timed.ensures (records.Arm i)
-    (record { sets = s.requires; rule' = r.run-rule.ensures ∙ arm-rule (caller-asked s.requires) i; timers' = b.begun.ensures; made' = no-late n.none.ensures (eqb r.run-rule.result 0) })
+    (record { sets = s.requires; rule' = r.run_rule_lem.ensures ∙ arm_rule (caller_asked s.requires) i; timers' = b.begun.ensures; made' = no_late n.none.ensures (eqb r.run_rule_lem.result 0) })
 
 pub arm-spec : {M : Type 1} → statement M
 arm-spec = tie.close (tie.spec run-rule-requires begun-requires none-requires timed-requires returns)

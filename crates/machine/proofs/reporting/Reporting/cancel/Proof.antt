@@ -2,9 +2,9 @@
 use mathlib.Core.Path.{◌∙◌}
 use lib.Dec.{eqb, ltb→lt}
 use Rattle.model.specs.Records as records
-use Rattle.machine.proofs.Asking.{cancel-rule}
-use Rattle.machine.proofs.Outcomes.{caller-asked}
-use Rattle.machine.proofs.Timed.{no-late}
+use Rattle.machine.proofs.Asking.{cancel_rule_lem}
+use Rattle.machine.proofs.Outcomes.{caller_asked}
+use Rattle.machine.proofs.Timed.{no_late}
 use Rattle.machine.proofs.reporting.Reporting.cancel.Statement.{statement}
 use Rattle.machine.proofs.reporting.Reporting.cancel.Tie as tie
 
@@ -28,7 +28,7 @@ returns c =
     let s = r.before.before in
     let i = s.args.timer in
     c.timed.ensures (records.Cancel i)
-    (record { sets = s.requires; rule' = r.cancel-rule.ensures ∙ cancel-rule (caller-asked s.requires) i; timers' = b.cancelled.ensures; made' = no-late n.none.ensures (eqb r.cancel-rule.result 0) })
+    (record { sets = s.requires; rule' = r.cancel_rule_lem.ensures ∙ cancel_rule_lem (caller_asked s.requires) i; timers' = b.cancelled.ensures; made' = no_late n.none.ensures (eqb r.cancel_rule_lem.result 0) })
 
 pub cancel-spec : {M : Type 1} → statement M
 cancel-spec = tie.close (tie.spec cancel-rule-requires cancelled-requires none-requires timed-requires returns)

@@ -11,24 +11,24 @@ use lib.Seq.{get_or-set_same, get_or-set_other}
 use Rattle.model.proofs.Tests.{equal?}
 use Rattle.due.specs.declared.reports.Report.{Report}
 use Rattle.machine.specs.declared.reporting.Reporting.{Reporting}
-use Rattle.due.specs.Lists.{reportRoom, reportOf, noReport, switchTo}
-use Rattle.machine.specs.View.{viewed, reportAt}
+use Rattle.due.specs.Lists.{report_room, report_of, no_report, switch_to}
+use Rattle.machine.specs.View.{viewed, report_at}
 use Rattle.machine.specs.Calls.{Apart, Closes}
-use Rattle.model.proofs.Loops.{listed-alike}
-use Rattle.machine.proofs.Sized.{reporting-size}
+use Rattle.model.proofs.Loops.{listed_alike}
+use Rattle.machine.proofs.Sized.{reporting_size}
 use Rattle.machine.proofs.reporting.Reporting.closed.Statement.{statement}
 use Rattle.machine.proofs.reporting.Reporting.closed.Tie as tie
 
 -- an array that has every report due at its place
-closes : (c : Reporting) (items : List Report) → ((i : ℕ) → i < c.due → get_or items i noReport ≡ reportAt c i) → Closes (record { machine = c.machine; due = record { items = items; count = c.due }; given = c.given }) c
+closes : (c : Reporting) (items : List Report) → ((i : ℕ) → i < c.due → get_or items i no_report ≡ report_at c i) → Closes (record { machine = c.machine; due = record { items = items; count = c.due }; given = c.given }) c
 closes c items e =
     record {
       machine' = refl;
-      seen = ap (λ l. viewed c.machine (drop c.given l)) (listed-alike (λ i. reportOf (get_or items i noReport)) (λ i. reportOf (reportAt c i)) c.due (λ i h. ap reportOf (e i h)));
+      seen = ap (λ l. viewed c.machine (drop c.given l)) (listed_alike (λ i. report_of (get_or items i no_report)) (λ i. report_of (report_at c i)) c.due (λ i h. ap report_of (e i h)));
     }
 
 -- the Switch has a place
-room : (c : Reporting) → Apart c → c.count < c.due → (c.count < reportRoom) × (c.due ≡ c.count + 1)
+room : (c : Reporting) → Apart c → c.count < c.due → (c.count < report_room) × (c.due ≡ c.count + 1)
 room c a h = elim a.apart [ inl e ↦ absurd (omega arith) | inr e ↦ (e.1, e.0) ]
 
 switch-requires : tie.Need-switch-requires
@@ -46,20 +46,20 @@ returns c =
     let s = t.before.before.before.before in
     let q = s.args.self in
     let r = room q s.requires t.if1.true in
-    let last : Report = switchTo q.chosen in
+    let last : Report = switch_to q.chosen in
     rw c.switch.ensures
     (closes q (set q.reports q.count last)
     (λ i h.
     ⊎_elim
-    (λ e. ap (λ k. get_or (set q.reports q.count last) k noReport) e ∙ get_or-set_same q.reports q.count last noReport (omega (arith, r.0, reporting-size q s.well-formed.0))
-    ∙ sym (ap (λ b. cond b (get_or q.reports i noReport) last) (le-ltb i q.count (omega arith))))
-    (λ d. get_or-set_other q.reports q.count i last noReport d ∙ sym (ap (λ b. cond b (get_or q.reports i noReport) last) (lt-ltb i q.count (omega (arith, r.1, h, d)))))
+    (λ e. ap (λ k. get_or (set q.reports q.count last) k no_report) e ∙ get_or-set_same q.reports q.count last no_report (omega (arith, r.0, reporting_size q s.well-formed.0))
+    ∙ sym (ap (λ b. cond b (get_or q.reports i no_report) last) (le-ltb i q.count (omega arith))))
+    (λ d. get_or-set_other q.reports q.count i last no_report d ∙ sym (ap (λ b. cond b (get_or q.reports i no_report) last) (lt-ltb i q.count (omega (arith, r.1, h, d)))))
     (equal? i q.count)))
 
 returns-2 : tie.Need-returns-2
 returns-2 c =
     let q = c.before.before.before.before.args.self in
-    closes q q.reports (λ i h. sym (ap (λ b. cond b (get_or q.reports i noReport) (switchTo q.chosen)) (lt-ltb i q.count (omega (arith, h, c.if1.false)))))
+    closes q q.reports (λ i h. sym (ap (λ b. cond b (get_or q.reports i no_report) (switch_to q.chosen)) (lt-ltb i q.count (omega (arith, h, c.if1.false)))))
 
 pub closed-spec : {M : Type 1} → statement M
 closed-spec = tie.close (tie.spec switch-requires mul-items array-set-from-items returns returns-2)

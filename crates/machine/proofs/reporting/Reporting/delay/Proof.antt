@@ -11,43 +11,43 @@ use Rattle.model.specs.Calls.{delay}
 use Rattle.machine.specs.declared.Machine.{Machine}
 use Rattle.machine.specs.declared.slots.Slots.{Slots}
 use Rattle.due.specs.declared.reports.Reports.{Reports}
-use Rattle.machine.specs.View.{conditionsOf, reportsIn}
-use Rattle.machine.specs.Rules.{freeRule}
+use Rattle.machine.specs.View.{conditions_of, reports_in}
+use Rattle.machine.specs.Rules.{free_rule}
 use Rattle.due.specs.Lists.{owed}
 use Rattle.machine.proofs.Admitted.{Asked, Runs, Makes, admits, refuses, by}
-use Rattle.machine.proofs.Asking.{delay-rule, delays}
+use Rattle.machine.proofs.Asking.{delay_rule, delays}
 use Rattle.machine.proofs.Facts.{facts}
-use Rattle.machine.proofs.Sized.{slept-size}
-use Rattle.machine.proofs.Room.{queue-once, caller-fits, delays-room}
+use Rattle.machine.proofs.Sized.{slept_size}
+use Rattle.machine.proofs.Room.{queue_once_lem, caller_fits, delays_room}
 use Rattle.machine.proofs.Chosen.{listed}
-use Rattle.machine.proofs.Views.{sleeps-seen}
+use Rattle.machine.proofs.Views.{sleeps_seen}
 use Rattle.machine.proofs.Meets.{alike}
-use Rattle.machine.proofs.Quieted.{unknown-quiet}
-use Rattle.machine.proofs.Outcomes.{caller-asked, short-wait, call-settles, call-answers}
+use Rattle.machine.proofs.Quieted.{unknown_quiet}
+use Rattle.machine.proofs.Outcomes.{caller_asked, short_wait, call_settles, call_answers}
 use Rattle.machine.proofs.reporting.Reporting.delay.Statement.{statement}
 use Rattle.machine.proofs.reporting.Reporting.delay.Tie as tie
 
 -- where the rule's answer is 0, the caller is the chosen thread
-admitted : {m : Machine} {x rule : ℕ} → Asked m x 0 → (n : ℕ) → rule ≡ freeRule m.holds x → rule ≡ 0 → Runs m x
-admitted a n e z = delays a n (sym (delay-rule a n) ∙ sym e ∙ z)
+admitted : {m : Machine} {x rule : ℕ} → Asked m x 0 → (n : ℕ) → rule ≡ free_rule m.holds x → rule ≡ 0 → Runs m x
+admitted a n e z = delays a n (sym (delay_rule a n) ∙ sym e ∙ z)
 
 free-rule-requires : tie.Need-free-rule-requires
-free-rule-requires c κs = (listed (facts (caller-asked c.before.requires).formed)).counts.holds'
+free-rule-requires c κs = (listed (facts (caller_asked c.before.requires).formed)).counts.holds'
 
 -- the tick number has room for the wait, and for one more
 
 plus-requires : tie.Need-plus-requires
-plus-requires c κs = let a = c.before.before.before.requires in omega (arith, (facts (caller-asked a).formed).tick, short-wait a)
+plus-requires c κs = let a = c.before.before.before.requires in omega (arith, (facts (caller_asked a).formed).tick, short_wait a)
 
 next-requires : tie.Need-next-requires
-next-requires c κs = let a = c.before.before.before.before.requires in omega (arith, c.plus.ensures, (facts (caller-asked a).formed).tick, short-wait a)
+next-requires c κs = let a = c.before.before.before.before.requires in omega (arith, c.plus.ensures, (facts (caller_asked a).formed).tick, short_wait a)
 
 -- where no rule is broken the caller is a thread
 fits : (c : tie.Then1) → c.before.before.before.args.self.machine.reported < 16
 fits c =
     let k = c.before in
     let s = k.before.before in
-    caller-fits (admitted (caller-asked s.requires) s.args.wait.0 k.free-rule.ensures c.if1.true)
+    caller_fits (admitted (caller_asked s.requires) s.args.wait.0 k.free_rule_lem.ensures c.if1.true)
 
 placed-requires : tie.Need-placed-requires
 placed-requires c κs = (fits c.before.before, omega arith)
@@ -64,21 +64,21 @@ array-set-from-wakes c = fits c.before.before.before.before
 without-requires : tie.Need-without-requires
 without-requires c κs =
     let s = c.before.before.before.before.before.before.before in
-    queue-once (facts (caller-asked s.requires).formed) s.args.self.machine.reported
+    queue_once_lem (facts (caller_asked s.requires).formed) s.args.self.machine.reported
 
 push-requires : tie.Need-push-requires
 push-requires c κs =
     let t = c.before.before.before.before.before in
     let k = t.before in
     let s = k.before.before in
-    let r = admitted (caller-asked s.requires) s.args.wait.0 k.free-rule.ensures t.if1.true in
-    (delays-room r, caller-fits r)
+    let r = admitted (caller_asked s.requires) s.args.wait.0 k.free_rule_lem.ensures t.if1.true in
+    (delays_room r, caller_fits r)
 
 abbrev start : tie.Joined1 → tie.Start
 start c = c.before.before.before
 
 -- what is left before the Switch: the caller may sleep, or a rule is broken. Last in each way stands the machine.
-made : (c : tie.Joined1) {rs : Reports} → owed rs ≡ [] → Makes c.if1.m rs c.before.free-rule.result (start c).args.self.machine (records.Delay (start c).args.wait.0)
+made : (c : tie.Joined1) {rs : Reports} → owed rs ≡ [] → Makes c.if1.m rs c.before.free_rule_lem.result (start c).args.self.machine (records.Delay (start c).args.wait.0)
 unfolding delay
 made c none' =
     let k = c.before in
@@ -86,20 +86,20 @@ made c none' =
     let m = s.args.self.machine in
     let x = s.args.self.machine.reported in
     let n = s.args.wait.0 in
-    let a = caller-asked s.pre in
-    let e = k.free-rule.ensures ∙ delay-rule a n in
+    let a = caller_asked s.pre in
+    let e = k.free_rule_lem.ensures ∙ delay_rule a n in
     ⊎_elim
     (λ w.
-    let r = admitted a n k.free-rule.ensures w.0.taken in
+    let r = admitted a n k.free_rule_lem.ensures w.0.taken in
     admits e (by r (λ y. delay y n)) w.0.taken w.7 refl
     (record {
       plan' = refl;
       keeps = s.pre.asks.stands.keeps;
       seen =
           alike refl
-          (ap (λ (k : Slots). conditionsOf m.plan.threads k (set m.wakes x w.2.result)) w.3.ensures
-          ∙ sleeps-seen m.plan.threads m.slots m.wakes x w.2.result (omega (arith, caller-fits r, slept-size s.args.self s.good.0))
-          ∙ ap (λ u. set (conditionsOf m.plan.threads m.slots m.wakes) x (asleep u)) (w.2.ensures ∙ ap (λ u. u + 1) w.1.ensures))
+          (ap (λ (k : Slots). conditions_of m.plan.threads k (set m.wakes x w.2.result)) w.3.ensures
+          ∙ sleeps_seen m.plan.threads m.slots m.wakes x w.2.result (omega (arith, caller_fits r, slept_size s.args.self s.good.0))
+          ∙ ap (λ u. set (conditions_of m.plan.threads m.slots m.wakes) x (asleep u)) (w.2.ensures ∙ ap (λ u. u + 1) w.1.ensures))
           w.5.ensures
           refl refl
           w.6.ensures
@@ -117,21 +117,21 @@ making-requires : tie.Need-making-requires
 making-requires c κs = tt
 
 -- and no report
-made_none : (c : tie.After-making) → (let j = c.before.before in Makes j.if1.m (reportsIn c.making.result) j.before.free-rule.result (start j).args.self.machine (records.Delay (start j).args.wait.0))
+made_none : (c : tie.After-making) → (let j = c.before.before in Makes j.if1.m (reports_in c.making.result) j.before.free_rule_lem.result (start j).args.self.machine (records.Delay (start j).args.wait.0))
 made_none c = let n = c.before in made n.before (c.making.ensures.stored [] n.none.ensures)
 
 chosen-requires : tie.Need-chosen-requires
-chosen-requires c κs = (call-settles (start c.before.before).requires (made_none c)).chooses
+chosen-requires c κs = (call_settles (start c.before.before).requires (made_none c)).chooses
 
 owing-requires : tie.Need-owing-requires
-owing-requires c κs = let k = c.before in (call-settles (start k.before.before).requires (made_none k)).room
+owing-requires c κs = let k = c.before in (call_settles (start k.before.before).requires (made_none k)).room
 
 returns : tie.Need-returns
 returns c =
     let h = c.before in
     let k = h.before in
     let j = k.before.before in
-    rw c.owing.ensures (record { answers = call-answers (start j).requires (made_none k) h.chosen.ensures (unknown-quiet j.if1.m); quiet' = refl })
+    rw c.owing.ensures (record { answers = call_answers (start j).requires (made_none k) h.chosen.ensures (unknown_quiet j.if1.m); quiet' = refl })
 
 pub delay-spec : {M : Type 1} → statement M
 delay-spec =

@@ -8,33 +8,33 @@ use Prim.Native.Nat.{ℕ, ◌<◌}
 use native.Mathlib.Omega.{arith}
 use borrow.Author.Rules.{rules}
 use lib.ListN.{length}
-use Rattle.model.specs.Searches.{◌▷◌, filter, firstGreatest}
+use Rattle.model.specs.Searches.{◌▷◌, filter, first_greatest}
 use Rattle.model.specs.Plan.{Plan}
 use Rattle.model.specs.Records as records
 use Rattle.model.specs.Records.{Won, Lost, Ready}
-use Rattle.model.specs.State.{State, Hold, hold, isHold, condition, arrive, leaveWaits, beginHold, endHold, owe}
-use Rattle.model.specs.Calls.{wanted, aboveAll, heir, give}
-use Rattle.model.proofs.Searches.{greatest-is}
-use Rattle.plan.specs.View.{baseIn}
+use Rattle.model.specs.State.{State, Hold, hold, is_hold, condition, arrive, leave_waits, begin_hold, end_hold, owe}
+use Rattle.model.specs.Calls.{wanted, above_all, heir, give}
+use Rattle.model.proofs.Searches.{greatest_is}
+use Rattle.plan.specs.View.{base_in}
 use Rattle.machine.specs.declared.Machine.{Machine}
 use Rattle.lists.specs.Words.{nibble, entry_of}
 use Rattle.lists.specs.Lists.{numbered, queued, held}
-use Rattle.lists.specs.Choice.{inheritsIn}
+use Rattle.lists.specs.Choice.{inherits_in}
 use Rattle.machine.specs.declared.slots.Slots.{Slots}
-use Rattle.machine.specs.View.{conditionsOf, plan_of, idle, reportsIn}
-use Rattle.machine.specs.Contracts.{Ceilings}
+use Rattle.machine.specs.View.{conditions_of, plan_of, idle, reports_in}
+use Rattle.machine.specs.Clauses.{Ceilings}
 use Rattle.machine.proofs.Admitted.{Gives, Makes, admits, refuses, by}
-use Rattle.machine.proofs.Asking.{give-rule, gives}
-use Rattle.machine.proofs.Conditions.{wants-it}
+use Rattle.machine.proofs.Asking.{give_rule_lem, gives}
+use Rattle.machine.proofs.Conditions.{wants_it}
 use Rattle.machine.proofs.Facts.{Facts, facts}
 use Rattle.lists.proofs.Laws.{length-held}
 use Rattle.clock.specs.View.{number_at}
-use Rattle.machine.proofs.Views.{condition-at, placed-seen}
-use Rattle.machine.proofs.Room.{waits-once, waiting-known, waiting-fits, waiting-room, held-once, give-room}
-use Rattle.machine.proofs.Keeping.{keeps-walked, keeps-gained}
-use Rattle.machine.proofs.Chosen.{ceiling-in, ceilings-are, listed, above-is, heir-same, inherits-same, waits-positive}
+use Rattle.machine.proofs.Views.{condition_at, placed_seen}
+use Rattle.machine.proofs.Room.{waits_once_lem, waiting_known, waiting_fits, waiting_room, held_once_lem, give_room}
+use Rattle.machine.proofs.Keeping.{keeps_walked, keeps_gained}
+use Rattle.machine.proofs.Chosen.{ceiling_in_lem, ceilings_are, listed, above_is, heir_same, inherits_same, waits_positive}
 use Rattle.machine.proofs.Meets.{alike, told}
-use Rattle.machine.proofs.Outcomes.{give-asked, call-settles, quiet-answers}
+use Rattle.machine.proofs.Outcomes.{give_asked, call_settles, quiet_answers}
 use Rattle.machine.proofs.reporting.Reporting.give.Statement.{statement}
 use Rattle.machine.proofs.reporting.Reporting.give.Tie as tie
 
@@ -43,29 +43,29 @@ named : (o : Option ℕ) (who : ℕ) → who ≡ numbered o → (who ≡ 255 →
 named none who e d = absurd (d e)
 named (some t) who e d = ap {B = Option ℕ} some (sym e)
 
-abbrev heirIn : Machine → Option ℕ
-heirIn m = firstGreatest (baseIn m.plan.threads m.plan.bases) (queued m.waits)
+abbrev heir_in : Machine → Option ℕ
+heir_in m = first_greatest (base_in m.plan.threads m.plan.bases) (queued m.waits)
 
-module _ (m : Machine) (f : Facts m) (who : ℕ) (e : who ≡ numbered (firstGreatest (entry_of m.plan.bases) (queued m.waits))) where
-  is-heir : who ≡ numbered (heirIn m)
-  is-heir = e ∙ ap numbered (heir-same m.plan.bases (listed f))
+module _ (m : Machine) (f : Facts m) (who : ℕ) (e : who ≡ numbered (first_greatest (entry_of m.plan.bases) (queued m.waits))) where
+  is-heir : who ≡ numbered (heir_in m)
+  is-heir = e ∙ ap numbered (heir_same m.plan.bases (listed f))
 
   -- an heir waits
   waits-for : (who ≡ 255 → ⊥) → Mem who (queued m.waits)
-  waits-for d = (greatest-is (baseIn m.plan.threads m.plan.bases) (queued m.waits) who (named (heirIn m) who is-heir d)).0
+  waits-for d = (greatest_is (base_in m.plan.threads m.plan.bases) (queued m.waits) who (named (heir_in m) who is-heir d)).0
 
   -- no thread has the number 255
-  nobody : who ≡ 255 → heirIn m ≡ none
-  nobody k = go (heirIn m) refl is-heir
+  nobody : who ≡ 255 → heir_in m ≡ none
+  nobody k = go (heir_in m) refl is-heir
     where
-      go : (o : Option ℕ) → heirIn m ≡ o → who ≡ numbered o → o ≡ none
+      go : (o : Option ℕ) → heir_in m ≡ o → who ≡ numbered o → o ≡ none
       go none q r = refl
-      go (some t) q r = absurd (omega (arith, waiting-fits f t (greatest-is (baseIn m.plan.threads m.plan.bases) (queued m.waits) t q).0))
+      go (some t) q r = absurd (omega (arith, waiting_fits f t (greatest_is (base_in m.plan.threads m.plan.bases) (queued m.waits) t q).0))
 
   -- where nobody waits nobody inherits, so whoever inherits is a thread
-  somebody : (ceilings : List ℕ) (hs : List Hold) {r : Bool} → r ≡ inheritsIn (entry_of m.plan.bases) ceilings hs (firstGreatest (entry_of m.plan.bases) (queued m.waits)) → r ≡ true → who ≡ 255 → ⊥
+  somebody : (ceilings : List ℕ) (hs : List Hold) {r : Bool} → r ≡ inherits_in (entry_of m.plan.bases) ceilings hs (first_greatest (entry_of m.plan.bases) (queued m.waits)) → r ≡ true → who ≡ 255 → ⊥
   somebody ceilings hs q t k =
-      true≢false (sym t ∙ q ∙ inherits-same m.plan.bases (listed f) ceilings hs ∙ ap (inheritsIn (baseIn m.plan.threads m.plan.bases) ceilings hs) (nobody k))
+      true≢false (sym t ∙ q ∙ inherits_same m.plan.bases (listed f) ceilings hs ∙ ap (inherits_in (base_in m.plan.threads m.plan.bases) ceilings hs) (nobody k))
 
   -- the section that an heir wants is the one that its bits say
   wants_is : (who ≡ 255 → ⊥) → nibble m.slots.wants who ≡ wanted (condition (idle m) who)
@@ -73,41 +73,41 @@ module _ (m : Machine) (f : Facts m) (who : ℕ) (e : who ≡ numbered (firstGre
       let i = waits-for d in
       let r = f.agree.waiting' who i in
       let s = r.0 in
-      let at = sym (condition-at m.plan.threads m.slots m.wakes who (waiting-known f who i)) ∙ r.1 in
-      wants-it (nibble m.slots.states who) (nibble m.slots.wants who) (number_at m.wakes who) s at (omega (arith, f.wants who s r.1, f.fits.sections)) ∙ sym (ap wanted r.1)
+      let at = sym (condition_at m.plan.threads m.slots m.wakes who (waiting_known f who i)) ∙ r.1 in
+      wants_it (nibble m.slots.states who) (nibble m.slots.wants who) (number_at m.wakes who) s at (omega (arith, f.wants who s r.1, f.fits.sections)) ∙ sym (ap wanted r.1)
 
   heir-fits : (who ≡ 255 → ⊥) → who < 16
-  heir-fits d = waiting-fits f who (waits-for d)
+  heir-fits d = waiting_fits f who (waits-for d)
 
 -- what Give does: nobody waits, the heir wins, the heir loses
 module _ (p : Plan) (x s : ℕ) (st : State) {a : State} where
-  none_seen : heir p st ≡ none → a ≡ (st ▷ endHold s x) → a ≡ give p x s st
+  none_seen : heir p st ≡ none → a ≡ (st ▷ end_hold s x) → a ≡ give p x s st
   unfolding give
   none_seen e q = rw e q
 
   module _ (w : ℕ) (e : heir p st ≡ some w) where
-    won-seen : aboveAll p w (filter (λ h. not (isHold s x h)) st.holds) ≡ true
-        → a ≡ (st ▷ endHold s x ▷ leaveWaits w ▷ beginHold (wanted (condition st w)) w ▷ arrive (w ∷ []) ▷ owe (Won w ∷ Ready w ∷ []))
+    won-seen : above_all p w (filter (λ h. not (is_hold s x h)) st.holds) ≡ true
+        → a ≡ (st ▷ end_hold s x ▷ leave_waits w ▷ begin_hold (wanted (condition st w)) w ▷ arrive (w ∷ []) ▷ owe (Won w ∷ Ready w ∷ []))
         → a ≡ give p x s st
     unfolding give
     won-seen k q = rw (e, k) q
 
-    lost-seen : aboveAll p w (filter (λ h. not (isHold s x h)) st.holds) ≡ false → a ≡ (st ▷ endHold s x ▷ owe (Lost w ∷ [])) → a ≡ give p x s st
+    lost-seen : above_all p w (filter (λ h. not (is_hold s x h)) st.holds) ≡ false → a ≡ (st ▷ end_hold s x ▷ owe (Lost w ∷ [])) → a ≡ give p x s st
     unfolding give
     lost-seen k q = rw (e, k) q
 
 -- the code's test is the model's
-tested : (m : Machine) (ceilings : List ℕ) → (f : Facts m) → Ceilings m ceilings → (w : ℕ) → heirIn m ≡ some w → {hs left : List Hold} → hs ≡ left → (r v : Bool)
-    → r ≡ inheritsIn (entry_of m.plan.bases) ceilings hs (firstGreatest (entry_of m.plan.bases) (queued m.waits))
+tested : (m : Machine) (ceilings : List ℕ) → (f : Facts m) → Ceilings m ceilings → (w : ℕ) → heir_in m ≡ some w → {hs left : List Hold} → hs ≡ left → (r v : Bool)
+    → r ≡ inherits_in (entry_of m.plan.bases) ceilings hs (first_greatest (entry_of m.plan.bases) (queued m.waits))
     → r ≡ v
-    → aboveAll (plan_of m) w left ≡ v
+    → above_all (plan_of m) w left ≡ v
 tested m ceilings f c w e {hs} {left} z r v q k =
     sym
     (q
-    ∙ inherits-same m.plan.bases (listed f) ceilings hs
-    ∙ ap (inheritsIn (baseIn m.plan.threads m.plan.bases) ceilings hs) e
-    ∙ above-is m f.valid c w hs
-    ∙ ap (aboveAll (plan_of m) w) z)
+    ∙ inherits_same m.plan.bases (listed f) ceilings hs
+    ∙ ap (inherits_in (base_in m.plan.threads m.plan.bases) ceilings hs) e
+    ∙ above_is m f.valid c w hs
+    ∙ ap (above_all (plan_of m) w) z)
     ∙ k
 
 none-requires : tie.Need-none-requires
@@ -115,7 +115,7 @@ none-requires c κs = tt
 
 -- what is known of the machine that came
 known : (s : tie.Start) → Facts s.args.self.machine
-known s = facts (give-asked s.requires.calls).asked.formed
+known s = facts (give_asked s.requires.calls).asked.formed
 
 give-rule-requires : tie.Need-give-rule-requires
 give-rule-requires c κs = (listed (known c.before.before.before)).counts.holds'
@@ -125,23 +125,23 @@ start c = c.before.before.before.before
 
 -- where no rule is broken, what the rules of Give say holds
 granted : (c : tie.Then1) → (let s = start c.before in Gives s.args.self.machine s.args.self.machine.reported s.args.section)
-granted c = let a = give-asked (start c.before).requires.calls in gives a (sym (give-rule a) ∙ sym c.before.give-rule.ensures ∙ c.if1.true)
+granted c = let a = give_asked (start c.before).requires.calls in gives a (sym (give_rule_lem a) ∙ sym c.before.give_rule_lem.ensures ∙ c.if1.true)
 
 without-requires : tie.Need-without-requires
 without-requires c κs =
     let s = start c.before in
     let f = known s in
-    ((listed f).counts.holds', held-once s.args.section s.args.self.machine.reported (held s.args.self.machine.holds) f.heldOnce)
+    ((listed f).counts.holds', held_once_lem s.args.section s.args.self.machine.reported (held s.args.self.machine.holds) f.held_once)
 
 -- the hold that ended leaves room for another
 left-room : (c : tie.After-without) → c.without.result.count < 16
-left-room c = omega (arith, length-held c.without.result, ap length c.without.ensures.0, give-room (granted c.before))
+left-room c = omega (arith, length-held c.without.result, ap length c.without.ensures.0, give_room (granted c.before))
 
 find-heir-requires : tie.Need-find-heir-requires
 find-heir-requires c κs =
     let s = start c.before.before in
     let f = known s in
-    ((listed f).counts.waits', omega (arith, left-room c), waits-positive s.args.self.machine.plan f.valid (listed f))
+    ((listed f).counts.waits', omega (arith, left-room c), waits_positive s.args.self.machine.plan f.valid (listed f))
 
 -- a free heir is a thread that waits
 free-heir : (c : tie.Then2) → c.before.find-heir.result.who ≡ 255 → ⊥
@@ -171,7 +171,7 @@ push-requires c κs =
     (left-room t.before.before, omega (arith, c.before.wanted.ensures), heir-below t)
 
 without-requires-2 : tie.Need-without-requires-2
-without-requires-2 c κs = waits-once (known (start c.before.before.before.before.before.before.before)) c.before.before.before.before.find-heir.result.who
+without-requires-2 c κs = waits_once_lem (known (start c.before.before.before.before.before.before.before)) c.before.before.before.before.find-heir.result.who
 
 placed-requires : tie.Need-placed-requires
 placed-requires c κs = (heir-below c.before.before.before.before, omega arith)
@@ -182,7 +182,7 @@ push-requires-2 c κs =
     let h = t.before in
     let s = start h.before.before.before in
     let f = known s in
-    (waiting-room f h.find-heir.result.who (waits-for s.args.self.machine f h.find-heir.result.who h.find-heir.ensures.0 (free-heir t)), heir-below t)
+    (waiting_room f h.find-heir.result.who (waits-for s.args.self.machine f h.find-heir.result.who h.find-heir.ensures.0 (free-heir t)), heir-below t)
 
 won-requires : tie.Need-won-requires
 won-requires c κs = tt
@@ -196,7 +196,7 @@ making-requires c κs = tt
 -- What is left before the Switch: no rule is broken, or one is. Where none is, three ways meet: the heir wins, the heir loses, nobody waits. Last in
 -- each stand the machine and the reports, and in the inner ones the holds.
 made : (c : tie.After-making)
-    → (let j = c.before in let s = start j.before in Makes j.if1.m (reportsIn c.making.result) j.before.give-rule.result s.args.self.machine (records.Give s.args.section))
+    → (let j = c.before in let s = start j.before in Makes j.if1.m (reports_in c.making.result) j.before.give_rule_lem.result s.args.self.machine (records.Give s.args.section))
 made c =
     let j = c.before in
     let r = j.before in
@@ -204,31 +204,31 @@ made c =
     let m = s.args.self.machine in
     let x = s.args.self.machine.reported in
     let n = s.args.section in
-    let a = give-asked s.pre.calls in
+    let a = give_asked s.pre.calls in
     let f = known s in
-    let q = r.give-rule.ensures ∙ give-rule a in
+    let q = r.give_rule_lem.ensures ∙ give_rule_lem a in
     let none' = r.before.before.none.ensures in
     ⊎_elim
     (λ v.
     let g = gives a (sym q ∙ v.0.taken) in
     let left = v.1.ensures.0 in
     let t = v.2.result.who in
-    let walked = keeps-walked (plan_of m) v.1.result (ceilings-are m f.valid s.pre.ceilings') v.1.ensures.1 in
+    let walked = keeps_walked (plan_of m) v.1.result (ceilings_are m f.valid s.pre.ceilings') v.1.ensures.1 in
     let e = v.2.ensures in
     admits q (by g.runs (λ y. give (plan_of m) y n)) v.0.taken v.4 refl
     (⊎_elim
     (λ w.
     let d = somebody m f t e.0 s.args.ceilings.now (held v.1.result) e.1 w.0.taken in
-    let o = named (heirIn m) t (is-heir m f t e.0) d in
+    let o = named (heir_in m) t (is-heir m f t e.0) d in
     rw (w.8, w.10)
     (record {
       plan' = refl;
-      keeps = keeps-gained (plan_of m) v.1.result w.3.result w.1.result t walked (ceiling-in m f.valid s.pre.ceilings' w.1.result) w.3.ensures.0 w.3.ensures.1;
+      keeps = keeps_gained (plan_of m) v.1.result w.3.result w.1.result t walked (ceiling_in_lem m f.valid s.pre.ceilings' w.1.result) w.3.ensures.0 w.3.ensures.1;
       seen =
           won-seen (plan_of m) x n (idle m) t o
           (tested m s.args.ceilings.now f s.pre.ceilings' t o left v.2.result.free true e.1 w.0.taken)
           (alike refl
-          (ap (λ (k : Slots). conditionsOf m.plan.threads k m.wakes) w.5.ensures ∙ placed-seen m.plan.threads m.slots m.wakes t 1 (omega arith))
+          (ap (λ (k : Slots). conditions_of m.plan.threads k m.wakes) w.5.ensures ∙ placed_seen m.plan.threads m.slots m.wakes t 1 (omega arith))
           w.6.ensures
           (w.3.ensures.0 ∙ ap₂ (λ (k : ℕ) (hs : List Hold). hold k t ∷ hs) (w.1.ensures ∙ wants_is m f t e.0 d) left)
           w.4.ensures
@@ -238,7 +238,7 @@ made c =
     }))
     (⊎_elim
     (λ w.
-    let o = named (heirIn m) t (is-heir m f t e.0) w.1.taken in
+    let o = named (heir_in m) t (is-heir m f t e.0) w.1.taken in
     rw (w.3, w.5)
     (record {
       plan' = refl;
@@ -256,16 +256,16 @@ made c =
     j.if1.branch
 
 chosen-requires : tie.Need-chosen-requires
-chosen-requires c κs = (call-settles (start c.before.before).requires.calls (made c)).chooses
+chosen-requires c κs = (call_settles (start c.before.before).requires.calls (made c)).chooses
 
 owing-requires : tie.Need-owing-requires
-owing-requires c κs = let k = c.before in (call-settles (start k.before.before).requires.calls (made k)).room
+owing-requires c κs = let k = c.before in (call_settles (start k.before.before).requires.calls (made k)).room
 
 returns : tie.Need-returns
 returns c =
     let h = c.before in
     let k = h.before in
-    rw c.owing.ensures (record { answers = quiet-answers (start k.before.before).requires.calls (made k) refl h.chosen.ensures; quiet' = refl })
+    rw c.owing.ensures (record { answers = quiet_answers (start k.before.before).requires.calls (made k) refl h.chosen.ensures; quiet' = refl })
 
 pub give_spec : {M : Type 1} → statement M
 give_spec =

@@ -5,7 +5,7 @@ use mathlib.Core.Bool.{not, ◌&&◌, ◌||◌}
 use borrow.Author.Rules.{rules}
 use borrow.Author.Tests.{eq-eqb, ne_eqb}
 use lib.Dec.{eqb, ltb}
-use Rattle.machine.specs.Calls.{inPlace}
+use Rattle.machine.specs.Calls.{in_place}
 use Rattle.machine.proofs.reporting.Reporting.hears.Statement.{statement}
 use Rattle.machine.proofs.reporting.Reporting.hears.Tie as tie
 
@@ -25,13 +25,13 @@ returns : tie.Need-returns
 returns c =
     let a = c.before.before.args in
     let e = sym (barred c.before) ∙ c.if2.true in
-    c.if2.true ∙ sym (ap (λ b. b || not (inPlace a.self.machine a.kind)) e)
+    c.if2.true ∙ sym (ap (λ b. b || not (in_place a.self.machine a.kind)) e)
 
 returns-2 : tie.Need-returns-2
 returns-2 c =
     let j = c.before.before in
     let a = j.before.args in
-    ap not c.in_order.ensures ∙ sym (ap (λ b. b || not (inPlace a.self.machine a.kind)) (sym (barred j) ∙ c.before.if2.false))
+    ap not c.in_order.ensures ∙ sym (ap (λ b. b || not (in_place a.self.machine a.kind)) (sym (barred j) ∙ c.before.if2.false))
 
 pub hears-spec : {M : Type 1} → statement M
 hears-spec = tie.close (tie.spec in-order-requires returns returns-2)

@@ -6,13 +6,13 @@ use native.Mathlib.Omega.{arith}
 use borrow.Author.Rules.{rules}
 use lib.ListN.{length, get_or, set}
 use Rattle.due.specs.declared.reports.Report.{Report}
-use Rattle.due.specs.Lists.{noReport, listed}
-use Rattle.machine.proofs.Sized.{reporting-size}
+use Rattle.due.specs.Lists.{no_report, listed}
+use Rattle.machine.proofs.Sized.{reporting_size}
 use Rattle.machine.proofs.reporting.Reporting.making.Statement.{statement}
 use Rattle.machine.proofs.reporting.Reporting.making.Tie as tie
 
 -- up to two entries of an array that begins with these two
-begins : (items : List Report) (a b : Report) → 2 ≤ length items → (n : ℕ) → n ≤ 2 → listed (λ i. get_or (set (set items 0 a) 1 b) i noReport) n ≡ listed (λ i. get_or (a ∷ b ∷ []) i noReport) n
+begins : (items : List Report) (a b : Report) → 2 ≤ length items → (n : ℕ) → n ≤ 2 → listed (λ i. get_or (set (set items 0 a) 1 b) i no_report) n ≡ listed (λ i. get_or (a ∷ b ∷ []) i no_report) n
 begins [] a b h n k = absurd (omega arith)
 begins (x ∷ []) a b h n k = absurd (omega arith)
 begins (x ∷ y ∷ l) a b h zero k = refl
@@ -30,7 +30,7 @@ returns : tie.Need-returns
 returns c =
     let s = c.before.before in
     let a = s.args in
-    record { stored = λ due t. begins a.self.reports a.made.first a.made.second (omega (arith, reporting-size a.self s.well-formed.0)) a.made.count t.few ∙ t.listed' }
+    record { stored = λ due t. begins a.self.reports a.made.first a.made.second (omega (arith, reporting_size a.self s.well-formed.0)) a.made.count t.few ∙ t.listed' }
 
 pub making-spec : {M : Type 1} → statement M
 making-spec = tie.close (tie.spec element-set-from-first element-set-from-second returns)

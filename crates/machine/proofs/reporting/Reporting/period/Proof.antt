@@ -7,13 +7,13 @@ use Prim.Native.Nat.{min}
 use borrow.Author.Tests.{eq-eqb, ne_eqb}
 use lib.Dec.{eqb}
 use Rattle.model.specs.Records as records
-use Rattle.model.specs.Timers.{lateDue}
+use Rattle.model.specs.Timers.{late_due}
 use Rattle.clock.specs.View as timing
 use Rattle.due.specs.declared.made.Made.{Made}
 use Rattle.due.specs.Lists.{Tells}
-use Rattle.machine.proofs.Asking.{period-rule}
+use Rattle.machine.proofs.Asking.{period_rule}
 use Rattle.machine.proofs.Facts.{facts}
-use Rattle.machine.proofs.Outcomes.{caller-asked}
+use Rattle.machine.proofs.Outcomes.{caller_asked}
 use Rattle.machine.proofs.reporting.Reporting.period.Statement.{statement}
 use Rattle.machine.proofs.reporting.Reporting.period.Tie as tie
 
@@ -26,7 +26,7 @@ none-requires c κs = tt
 -- the arming has come to its start, and the tick number is one that there is
 lost-requires : tie.Need-lost-requires
 lost-requires c κs =
-    let a = caller-asked c.before.before.before.before.before.requires in
+    let a = caller_asked c.before.before.before.before.before.requires in
     let f = facts a.formed in
     (record { known = f.arming; stage' = a.ordered }, f.tick)
 
@@ -38,7 +38,7 @@ start j = j.before.before.before.before.before
 
 armed-requires : tie.Need-armed-requires
 armed-requires c κs =
-    let a = caller-asked (start c).requires in
+    let a = caller_asked (start c).requires in
     let f = facts a.formed in
     (record { known = f.arming; stage' = a.ordered }, f.tick)
 
@@ -47,13 +47,13 @@ same : {made way : Made} {due due' : List records.Report} → made ≡ way → d
 same {way = way} {due' = due'} e d t = subst (λ x. Tells x due') (sym e) (subst (λ l. Tells way l) d t)
 
 -- Late is due where no rule is broken
-late_due : (j : tie.Joined1) → (let s = start j in let m = s.args.self.machine in Tells j.if1.made (cond (eqb j.before.before.run-rule.result 0) (lateDue (records.Period s.args.ticks) m.tick.0 (timing.view m.timers)) []))
+late_due : (j : tie.Joined1) → (let s = start j in let m = s.args.self.machine in Tells j.if1.made (cond (eqb j.before.before.run_rule_lem.result 0) (late_due (records.Period s.args.ticks) m.tick.0 (timing.view m.timers)) []))
 late_due j =
     let n = j.before in
-    let r = n.before.run-rule.result in
+    let r = n.before.run_rule_lem.result in
     let s = start j in
     let m = s.args.self.machine in
-    let late = lateDue (records.Period s.args.ticks) m.tick.0 (timing.view m.timers) in
+    let late = late_due (records.Period s.args.ticks) m.tick.0 (timing.view m.timers) in
     ⊎_elim
     (λ w. same w.3 (ap (λ k. records.Late (min k 65535) ∷ []) w.1.ensures ∙ sym (ap (λ b. cond b late []) (eq-eqb r 0 w.0.taken))) w.2.ensures)
     (λ w. same w.1 (sym (ap (λ b. cond b late []) (ne_eqb r 0 w.0.left))) n.none.ensures)
@@ -66,9 +66,9 @@ returns : tie.Need-returns
 returns c =
     let b = c.before in
     let j = b.before in
-    let r = j.before.before.run-rule in
+    let r = j.before.before.run_rule_lem in
     let s = start j in
-    c.timed.ensures (records.Period s.args.ticks) (record { sets = s.pre; rule' = r.ensures ∙ period-rule (caller-asked s.pre) s.args.ticks; timers' = b.armed.ensures; made' = late_due j })
+    c.timed.ensures (records.Period s.args.ticks) (record { sets = s.pre; rule' = r.ensures ∙ period_rule (caller_asked s.pre) s.args.ticks; timers' = b.armed.ensures; made' = late_due j })
 
 pub period-spec : {M : Type 1} → statement M
 period-spec = tie.close (tie.spec run-rule-requires none-requires lost-requires late-requires armed-requires timed-requires returns)

@@ -2,10 +2,10 @@
 use mathlib.Core.Path.{◌∙◌}
 use lib.Dec.{eqb}
 use Rattle.model.specs.Records as records
-use Rattle.machine.proofs.Asking.{start-rule}
+use Rattle.machine.proofs.Asking.{start_rule}
 use Rattle.machine.proofs.Facts.{facts}
-use Rattle.machine.proofs.Outcomes.{caller-asked}
-use Rattle.machine.proofs.Timed.{no-late}
+use Rattle.machine.proofs.Outcomes.{caller_asked}
+use Rattle.machine.proofs.Timed.{no_late}
 use Rattle.machine.proofs.reporting.Reporting.start.Statement.{statement}
 use Rattle.machine.proofs.reporting.Reporting.start.Tie as tie
 
@@ -13,7 +13,7 @@ run-rule-requires : tie.Need-run-rule-requires
 run-rule-requires c κs = tt
 
 started-requires : tie.Need-started-requires
-started-requires c κs = let a = caller-asked c.before.before.requires in record { known = (facts a.formed).arming; stage' = a.ordered }
+started-requires c κs = let a = caller_asked c.before.before.requires in record { known = (facts a.formed).arming; stage' = a.ordered }
 
 none-requires : tie.Need-none-requires
 none-requires c κs = tt
@@ -29,7 +29,7 @@ returns c =
     let s = r.before.before in
     let i = s.args.number in
     c.timed.ensures (records.Start i)
-    (record { sets = s.requires; rule' = r.run-rule.ensures ∙ start-rule (caller-asked s.requires) i; timers' = b.started.ensures; made' = no-late n.none.ensures (eqb r.run-rule.result 0) })
+    (record { sets = s.requires; rule' = r.run_rule_lem.ensures ∙ start_rule (caller_asked s.requires) i; timers' = b.started.ensures; made' = no_late n.none.ensures (eqb r.run_rule_lem.result 0) })
 
 pub start_spec : {M : Type 1} → statement M
 start_spec = tie.close (tie.spec run-rule-requires started-requires none-requires timed-requires returns)

@@ -6,39 +6,39 @@ use Prim.Native.Nat.{ℕ, suc, ◌+◌, ◌≤◌}
 use native.Mathlib.Omega.{arith}
 use lib.ListN.{length, drop}
 use Rattle.model.specs.Searches.{filter}
-use Rattle.model.specs.State.{allReady, withoutSwitch}
+use Rattle.model.specs.State.{all_ready, without_switch}
 use Rattle.model.specs.Records as records
 use Rattle.model.specs.Records.{Ready, Expire}
 use Rattle.model.specs.Timers.{expired, move_on}
-use Rattle.model.specs.Calls.{tick, sleepers, stillAsleep}
+use Rattle.model.specs.Calls.{tick, sleepers, still_asleep}
 use Rattle.model.specs.Formed.{claims}
-use Rattle.model.proofs.Laws.{expired-without}
+use Rattle.model.proofs.Laws.{expired_without}
 use Rattle.lists.specs.Lists.{queued}
 use Rattle.machine.specs.declared.Machine.{Machine}
 use Rattle.due.specs.declared.reports.Reports.{Reports}
 use Rattle.due.specs.Lists.{owed}
 use Rattle.machine.specs.declared.reporting.Reporting.{Reporting}
-use Rattle.machine.specs.View.{conditionsOf, idle, shown}
-use Rattle.machine.specs.Contracts.{wakesAt, owing}
+use Rattle.machine.specs.View.{conditions_of, idle, shown}
+use Rattle.machine.specs.Clauses.{wakes_at, owing}
 use Rattle.machine.specs.Calls.{Quiet, Called}
 use Rattle.machine.proofs.Admitted.{MakesOf}
-use Rattle.machine.proofs.Asking.{tick-rule}
+use Rattle.machine.proofs.Asking.{tick_rule}
 use Rattle.machine.proofs.Facts.{Facts, facts}
 use Rattle.machine.proofs.Meets.{alike}
-use Rattle.machine.proofs.Room.{sleepers-room}
-use Rattle.machine.proofs.Woken.{placed-ready, woken-are, asleep-are, asleep-fit, woken-fit, tick-room}
-use Rattle.machine.proofs.Quieted.{tick-sleeps, next-quiet}
-use Rattle.machine.proofs.Outcomes.{tick-asked, claims-room, tick-settles, tick-answers}
-use Rattle.machine.proofs.Owing.{array-due, array-room}
-use Rattle.machine.proofs.Sized.{reporting-size}
+use Rattle.machine.proofs.Room.{sleepers_room}
+use Rattle.machine.proofs.Woken.{placed_ready, woken_are, asleep_are, asleep_fit, woken_fit, tick_room}
+use Rattle.machine.proofs.Quieted.{tick_sleeps, next_quiet}
+use Rattle.machine.proofs.Outcomes.{tick_asked, claims_room, tick_settles, tick_answers}
+use Rattle.machine.proofs.Owing.{array_due, array_room}
+use Rattle.machine.proofs.Sized.{reporting_size}
 use Rattle.machine.proofs.reporting.Reporting.tick.Statement.{statement}
 use Rattle.machine.proofs.reporting.Reporting.tick.Tie as tie
 
 next-requires : tie.Need-next-requires
-next-requires c κs = omega (arith, (tick-asked c.before.requires).room)
+next-requires c κs = omega (arith, (tick_asked c.before.requires).room)
 
 wake-requires : tie.Need-wake-requires
-wake-requires c κs = sleepers-room (facts (tick-asked c.before.before.before.before.requires).formed)
+wake-requires c κs = sleepers_room (facts (tick_asked c.before.before.before.before.requires).formed)
 
 -- where those due have woken: what came, the next tick number, and what is known
 
@@ -49,18 +49,18 @@ abbrev number : tie.After-wake → ℕ
 number c = c.before.before.before.next.result.0
 
 known : (c : tie.After-wake) → Facts (came c).args.self.machine
-known c = facts (tick-asked (came c).requires).formed
+known c = facts (tick_asked (came c).requires).formed
 
 next-number : (c : tie.After-wake) → number c ≡ suc (came c).args.self.machine.tick.0
 next-number c = omega (arith, c.before.before.before.next.ensures)
 
 -- what is due, and what of it stays
 
-abbrev owed-before : tie.After-wake → List records.Report
-owed-before c = (shown (came c).args.self).due
+abbrev owed_before : tie.After-wake → List records.Report
+owed_before c = (shown (came c).args.self).due
 
 claimed : (c : tie.After-wake) → (let s = (came c).args.self in claims (shown s) ≤ s.machine.plan.threads + 9)
-claimed c = claims-room (came c).requires.asks
+claimed c = claims_room (came c).requires.asks
 
 array-requires : tie.Need-array-requires
 array-requires c κs = tt
@@ -74,13 +74,13 @@ module _ (c : tie.After-array) where
   abbrev in_array : List records.Report
   in_array = drop here.given (owed c.array.result)
 
-  same_kept : withoutSwitch in_array ≡ withoutSwitch (owed-before c.before)
-  same_kept = ap (λ (rs : Reports). withoutSwitch (drop here.given (owed rs))) c.array.ensures ∙ array-due here (came c.before).requires.asks.stands.apart'
+  same_kept : without_switch in_array ≡ without_switch (owed_before c.before)
+  same_kept = ap (λ (rs : Reports). without_switch (drop here.given (owed rs))) c.array.ensures ∙ array_due here (came c.before).requires.asks.stands.apart'
 
-  same_ended : (n : ℕ) → expired n in_array (idle here.machine).timers ≡ expired n (owed-before c.before) (idle here.machine).timers
+  same_ended : (n : ℕ) → expired n in_array (idle here.machine).timers ≡ expired n (owed_before c.before) (idle here.machine).timers
   same_ended n =
       let ts = (idle here.machine).timers in
-      sym (expired-without n in_array ts) ∙ ap (λ l. expired n l ts) same_kept ∙ expired-without n (owed-before c.before) ts
+      sym (expired_without n in_array ts) ∙ ap (λ l. expired n l ts) same_kept ∙ expired_without n (owed_before c.before) ts
 
 ticked-requires : tie.Need-ticked-requires
 ticked-requires c κs =
@@ -91,16 +91,16 @@ ticked-requires c κs =
     let e = w.wake.ensures in
     record {
       later = omega (arith, next-number w);
-      in_array = λ h. omega (arith, same, array-room x s.pre.asks.formed' s.pre.asks.stands.apart' (reporting-size x s.good.0) (omega (arith, h, same)));
-      few = woken-fit (known w) (number w) e;
-      room = omega (arith, ap length (same_kept c), ap length (same_ended c (number w)), tick-room (known w) (number w) e (owed-before w) (claimed w) (next-number w));
+      in_array = λ h. omega (arith, same, array_room x s.pre.asks.formed' s.pre.asks.stands.apart' (reporting_size x s.good.0) (omega (arith, h, same)));
+      few = woken_fit (known w) (number w) e;
+      room = omega (arith, ap length (same_kept c), ap length (same_ended c (number w)), tick_room (known w) (number w) e (owed_before w) (claimed w) (next-number w));
     }
 
 moved-on-requires : tie.Need-moved-on-requires
-moved-on-requires c κs = let w = c.before.before in (omega (arith, next-number w), omega (arith, next-number w, (tick-asked (came w).requires).room))
+moved-on-requires c κs = let w = c.before.before in (omega (arith, next-number w), omega (arith, next-number w, (tick_asked (came w).requires).room))
 
 next-event-requires : tie.Need-next-event-requires
-next-event-requires c κs = let w = c.before.before.before in asleep-fit (known w) (number w) w.wake.ensures
+next-event-requires c κs = let w = c.before.before.before in asleep_fit (known w) (number w) w.wake.ensures
 
 -- what is left before the Switch
 
@@ -116,15 +116,15 @@ ticked c =
 
 -- what stays, behind it the Expires, behind them the Readys
 due : (c : tie.After-moved-on)
-    → (let w = woke c in let n = number w in let old = owed-before w in let m = (came w).args.self.machine in
-    owed c.before.ticked.result ≡ withoutSwitch old ++ (map Expire (expired n old (idle m).timers) ++ map Ready (sleepers n (idle m))))
+    → (let w = woke c in let n = number w in let old = owed_before w in let m = (came w).args.self.machine in
+    owed c.before.ticked.result ≡ without_switch old ++ (map Expire (expired n old (idle m).timers) ++ map Ready (sleepers n (idle m))))
 due c =
     let r = c.before.before in
     let w = woke c in
     let n = number w in
     c.before.ticked.ensures
     ∙ ap₂ (λ a b. a ++ (map Expire b ++ map Ready (queued w.wake.result.woken))) (same_kept r) (same_ended r n)
-    ∙ ap (λ l. withoutSwitch (owed-before w) ++ (map Expire (expired n (owed-before w) (idle (came w).args.self.machine).timers) ++ map Ready l)) (w.wake.ensures.woken' ∙ woken-are (known w) n)
+    ∙ ap (λ l. without_switch (owed_before w) ++ (map Expire (expired n (owed_before w) (idle (came w).args.self.machine).timers) ++ map Ready l)) (w.wake.ensures.woken' ∙ woken_are (known w) n)
 
 made : (c : tie.After-moved-on) → (let s = (came (woke c)).args.self in MakesOf (shown s) (ticked c) c.before.ticked.result 0 s.machine records.Tick)
 unfolding tick
@@ -135,21 +135,21 @@ made c =
     let n = number w in
     let z = next-number w in
     let e = w.wake.ensures in
-    let up = woken-are (known w) n in
-    let conditions = ap (λ s. conditionsOf m.plan.threads s m.wakes) e.slots' ∙ placed-ready m.plan.threads m.wakes (filter (wakesAt m.wakes n) (queued m.delays)) m.slots ∙ ap (λ l. allReady l (idle m).conditions) up in
+    let up = woken_are (known w) n in
+    let conditions = ap (λ s. conditions_of m.plan.threads s m.wakes) e.slots' ∙ placed_ready m.plan.threads m.wakes (filter (wakes_at m.wakes n) (queued m.delays)) m.slots ∙ ap (λ l. all_ready l (idle m).conditions) up in
     let seen =
     alike z
-    (conditions ∙ ap (λ k. allReady (sleepers k (idle m)) (idle m).conditions) z)
+    (conditions ∙ ap (λ k. all_ready (sleepers k (idle m)) (idle m).conditions) z)
     (e.queue' ∙ ap (λ l. queued m.queue ++ l) up ∙ ap (λ k. queued m.queue ++ sleepers k (idle m)) z)
     refl refl
-    (e.delays' ∙ asleep-are (known w) n ∙ ap (λ k. stillAsleep k (idle m)) z)
+    (e.delays' ∙ asleep_are (known w) n ∙ ap (λ k. still_asleep k (idle m)) z)
     refl
-    (due c ∙ ap (λ k. withoutSwitch (shown s).due ++ (map Expire (expired k (shown s).due (idle m).timers) ++ map Ready (sleepers k (idle m)))) z)
+    (due c ∙ ap (λ k. without_switch (shown s).due ++ (map Expire (expired k (shown s).due (idle m).timers) ++ map Ready (sleepers k (idle m)))) z)
     (c.moved_on.ensures ∙ ap (λ k. move_on k (idle m).timers) z) in
-    record { plan' = refl; rule' = tick-rule (tick-asked (came w).pre) (shown s).due; made = λ q. seen; stays = λ d. absurd (d refl); keeps = (came w).pre.asks.stands.keeps }
+    record { plan' = refl; rule' = tick_rule (tick_asked (came w).pre) (shown s).due; made = λ q. seen; stays = λ d. absurd (d refl); keeps = (came w).pre.asks.stands.keeps }
 
 chosen-requires : tie.Need-chosen-requires
-chosen-requires c κs = let l = c.before.before.before.before.before in (tick-settles (came (woke l)).requires (made l)).chooses
+chosen-requires c κs = let l = c.before.before.before.before.before in (tick_settles (came (woke l)).requires (made l)).chooses
 
 telling-requires : tie.Need-telling-requires
 telling-requires c κs = tt
@@ -157,7 +157,7 @@ telling-requires c κs = tt
 owing-requires : tie.Need-owing-requires
 owing-requires c κs =
     let l = c.before.before.before.before.before.before.before in
-    omega (arith, ap (λ (rs : Reports). rs.count) c.telling.ensures, (tick-settles (came (woke l)).requires (made l)).room)
+    omega (arith, ap (λ (rs : Reports). rs.count) c.telling.ensures, (tick_settles (came (woke l)).requires (made l)).room)
 
 -- what happens next was asked of the machine as it is now
 returns : tie.Need-returns
@@ -170,7 +170,7 @@ returns c =
     let s = came (woke l) in
     let is = c.owing.ensures ∙ ap (λ (rs : Reports). owing m rs 0 h.chosen.result q.next-event.result) t.telling.ensures in
     subst (λ (x : Reporting). Called x s.args.self records.Tick) (sym is)
-    (record { answers = tick-answers s.pre (made l) h.chosen.ensures (subst (Quiet m) (sym q.next-event.ensures) (next-quiet m (tick-sleeps (known (woke l)) (made l)))); quiet' = q.next-event.ensures })
+    (record { answers = tick_answers s.pre (made l) h.chosen.ensures (subst (Quiet m) (sym q.next-event.ensures) (next_quiet m (tick_sleeps (known (woke l)) (made l)))); quiet' = q.next-event.ensures })
 
 pub tick-spec : {M : Type 1} → statement M
 tick-spec = tie.close (tie.spec next-requires wake-requires array-requires ticked-requires moved-on-requires next-event-requires chosen-requires telling-requires owing-requires returns)

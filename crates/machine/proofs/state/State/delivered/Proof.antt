@@ -7,21 +7,21 @@ use Prim.Native.Nat.{ℕ, ◌+◌, ◌%◌}
 use native.Mathlib.Omega.{arith}
 use borrow.Author.Rules.{rules}
 use lib.ListN.{drop}
-use Rattle.model.specs.Records.{operandThread}
-use Rattle.model.specs.State.{switchedTo}
-use Rattle.model.proofs.Laws.{well-formed}
-use Rattle.plan.proofs.Laws.{threads-view, valid-fits}
+use Rattle.model.specs.Records.{operand_thread}
+use Rattle.model.specs.State.{switched_to}
+use Rattle.model.proofs.Laws.{well_formed}
+use Rattle.plan.proofs.Laws.{threads_view, valid_fits}
 use Rattle.due.specs.declared.reports.Report.{Report}
 use Rattle.machine.specs.declared.Machine.{Machine}
 use Rattle.machine.specs.declared.state.State.{State}
-use Rattle.due.specs.Lists.{threadOf, reportOf, owed}
+use Rattle.due.specs.Lists.{thread_of, report_of, owed}
 use Rattle.machine.specs.View.{plan_of, viewed, view}
-use Rattle.machine.specs.Contracts.{Owes, FirstDue, Delivers}
-use Rattle.machine.proofs.Sized.{due-size}
+use Rattle.machine.specs.Clauses.{Owes, FirstDue, Delivers}
+use Rattle.machine.proofs.Sized.{due_size}
 use Rattle.machine.proofs.Views.{sized}
 use Rattle.machine.proofs.Meets.{alike}
-use Rattle.due.proofs.Laws.{switches, switches-not, names-one, drop-next}
-use Rattle.machine.proofs.Owing.{due-fits, owing}
+use Rattle.due.proofs.Laws.{switches, switches_not, names_one, drop-next}
+use Rattle.machine.proofs.Owing.{due_fits, owing}
 use Rattle.machine.proofs.state.State.delivered.Statement.{statement}
 use Rattle.machine.proofs.state.State.delivered.Tie as tie
 
@@ -34,14 +34,14 @@ add-t8 c =
     let q = s.args.self in
     let o = s.requires.0 in
     let h = owing q o.formed' o.due' in
-    record { fits = omega (arith, h, due-fits q o.formed' (due-size q s.well-formed.0) h) }
+    record { fits = omega (arith, h, due_fits q o.formed' (due_size q s.well-formed.0) h) }
 
 -- the machine with this thread reported
 abbrev told : Machine → ℕ → Machine
 told m n = record { plan = m.plan; tick = m.tick; slots = m.slots; wakes = m.wakes; queue = m.queue; holds = m.holds; waits = m.waits; delays = m.delays; reported = n; timers = m.timers }
 
 -- with one more report given it is what the model delivers
-delivers : (s : State) (r : Report) (n : ℕ) {m : Machine} → m ≡ told s.machine n → threadOf n ≡ switchedTo (threadOf s.machine.reported) (reportOf r)
+delivers : (s : State) (r : Report) (n : ℕ) {m : Machine} → m ≡ told s.machine n → thread_of n ≡ switched_to (thread_of s.machine.reported) (report_of r)
     → Delivers (record { machine = m; due = s.due; given = s.given + 1 }) s r
 delivers s r n e q =
     record {
@@ -51,11 +51,11 @@ delivers s r n e q =
     }
 
 -- the low byte of a Switch that is due is the thread that it names
-low_byte : (s : State) (r : Report) → Owes s → FirstDue r s → r.kind ≡ 17 → threadOf (r.operand % 256) ≡ operandThread r.operand
+low_byte : (s : State) (r : Report) → Owes s → FirstDue r s → r.kind ≡ 17 → thread_of (r.operand % 256) ≡ operand_thread r.operand
 low_byte s r o f k =
     let p = plan_of s.machine in
-    let w = well-formed p (view s) (sized s.machine) o.formed' in
-    names-one r p (omega (arith, threads-view s.machine.plan, (valid-fits s.machine.plan w.standing.valid).threads)) (w.known (reportOf r) (subst (λ l. Mem (reportOf r) l) (sym f.first) (here refl))) k
+    let w = well_formed p (view s) (sized s.machine) o.formed' in
+    names_one r p (omega (arith, threads_view s.machine.plan, (valid_fits s.machine.plan w.standing.valid).threads)) (w.known (report_of r) (subst (λ l. Mem (report_of r) l) (sym f.first) (here refl))) k
 
 returns : tie.Need-returns
 returns c =
@@ -63,8 +63,8 @@ returns c =
     let s = b.args.self in
     let r = b.args.given in
     ⊎_elim
-    (λ w. delivers s r (r.operand % 256) w.2 (low_byte s r b.requires.0 b.requires.1 w.0.taken ∙ sym (switches r (threadOf s.machine.reported) w.0.taken)))
-    (λ w. delivers s r s.machine.reported w.1 (sym (switches-not r (threadOf s.machine.reported) w.0.left)))
+    (λ w. delivers s r (r.operand % 256) w.2 (low_byte s r b.requires.0 b.requires.1 w.0.taken ∙ sym (switches r (thread_of s.machine.reported) w.0.taken)))
+    (λ w. delivers s r s.machine.reported w.1 (sym (switches_not r (thread_of s.machine.reported) w.0.left)))
     c.before.if1.branch
 
 pub delivered-spec : {M : Type 1} → statement M

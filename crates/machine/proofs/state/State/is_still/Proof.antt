@@ -7,7 +7,7 @@ use borrow.Author.Tests.{le-leb, lt-leb, not-true, not-false}
 use lib.Dec.{ltb, leb}
 use Rattle.model.specs.Timers.{is_complete}
 use Rattle.clock.specs.View as timing
-use Rattle.clock.specs.Contracts.{soonest as soonestExpiry}
+use Rattle.clock.specs.Clauses.{soonest as soonest_expiry}
 use Rattle.machine.specs.declared.state.State.{State}
 use Rattle.machine.proofs.state.State.is_still.Statement.{statement}
 use Rattle.machine.proofs.state.State.is_still.Tie as tie
@@ -28,10 +28,10 @@ complete : (c : tie.Else2) → is_complete (timing.view (asked c.before.before.b
 complete c = sym c.before.is-complete.ensures ∙ not-false c.before.is-complete.result c.if2.false
 
 -- whether the timers are later, of the number as it was found
-all-after-is : (c : tie.After-all-after) → (let k = c.before.before.before.before in c.all_after.result ≡ ltb ((asked k).machine.tick.0 + 1) (soonestExpiry (timing.view (asked k).machine.timers).slots))
+all-after-is : (c : tie.After-all-after) → (let k = c.before.before.before.before in c.all_after.result ≡ ltb ((asked k).machine.tick.0 + 1) (soonest_expiry (timing.view (asked k).machine.timers).slots))
 all-after-is c =
     let k = c.before.before.before.before in
-    c.all_after.ensures ∙ ap (λ n. ltb n (soonestExpiry (timing.view (asked k).machine.timers).slots)) (numbered_next k).next.ensures
+    c.all_after.ensures ∙ ap (λ n. ltb n (soonest_expiry (timing.view (asked k).machine.timers).slots)) (numbered_next k).next.ensures
 
 next-requires : tie.Need-next-requires
 next-requires c κs = omega (arith, c.before.requires.0)

@@ -4,14 +4,14 @@ use Rattle.model.specs.Plan as model
 use Rattle.model.specs.Records as records
 use Rattle.model.specs.State as state
 use Rattle.model.specs.Runs.{clean, breach, moved, broke, step, run}
-use Rattle.model.specs.Formed.{lastTick, formed}
+use Rattle.model.specs.Formed.{last_tick, formed}
 use Rattle.model.proofs.Laws.{Reached}
 use Rattle.machine.specs.declared.state.State.{State}
 use Rattle.machine.specs.View.{plan_of, view}
 use Rattle.machine.specs.Kept.{kept}
-use Rattle.machine.specs.Contracts.{Ceilings}
-use Rattle.dump.specs.Layout.{recordCount, kindAt, operand_at, part}
-use Rattle.dump.specs.Questions.{operandFits, Whole}
+use Rattle.machine.specs.Clauses.{Ceilings}
+use Rattle.dump.specs.Layout.{record_count, kind_at, operand_at, part}
+use Rattle.dump.specs.Questions.{operand_fits, Whole}
 use Rattle.walk.specs.declared.walk.Walked.{Walked}
 
 -- the state in which a run ends: behind its last record, or before the one that breaks a rule
@@ -23,21 +23,21 @@ ends p (r ∷ rs) st = elim (step p st r) [ moved st' ↦ ends p rs st' | broke 
 -- only itself is known, so only one record is walked over.
 pub record Runs (p : model.Plan) (st : state.State) (n : ℕ) : Type 0 where
   pub reached : Reached p st
-  pub room : st.tickNumber + n ≤ lastTick
+  pub room : st.tick_number + n ≤ last_tick
 
 pub record Lent (p : model.Plan) (st : state.State) (bytes : List ℕ) (from to : ℕ) : Type 0 where
   pub single : to ≡ from + 1
   pub formed' : T (formed p st)
-  pub room : kindAt bytes from ≡ 7 → st.tickNumber < lastTick
+  pub room : kind_at bytes from ≡ 7 → st.tick_number < last_tick
 
 -- what a walk asks: a valid plan with its ceilings, the owner kept, records that questions 5 to 8 let pass
 pub record Walks (s : State) (ceilings : List ℕ) (bytes : List ℕ) (from to : ℕ) : Type 0 where
-  pub valid : T (model.validPlan (plan_of s.machine))
+  pub valid : T (model.valid_plan (plan_of s.machine))
   pub ceilings' : Ceilings s.machine ceilings
   pub keeps : T (kept s.machine)
   pub whole : Whole bytes
-  pub within : to ≤ recordCount bytes
-  pub operands : (i : ℕ) → from ≤ i → i < to → T (operandFits s.machine.plan.threads s.machine.plan.sections (kindAt bytes i) (operand_at bytes i))
+  pub within : to ≤ record_count bytes
+  pub operands : (i : ℕ) → from ≤ i → i < to → T (operand_fits s.machine.plan.threads s.machine.plan.sections (kind_at bytes i) (operand_at bytes i))
   pub safe : Runs (plan_of s.machine) (view s) (to - from) ⊎ Lent (plan_of s.machine) (view s) bytes from to
 
 -- a walk ends where the run does, with its verdict, and the owner is kept
@@ -53,9 +53,9 @@ pub record Single (s : State) (ceilings : List ℕ) (bytes : List ℕ) (i : ℕ)
   pub keeps : T (kept s.machine)
   pub ceilings' : Ceilings s.machine ceilings
   pub whole : Whole bytes
-  pub within : i < recordCount bytes
-  pub operand' : T (operandFits s.machine.plan.threads s.machine.plan.sections (kindAt bytes i) (operand_at bytes i))
-  pub room : kindAt bytes i ≡ 7 → (view s).tickNumber < lastTick
+  pub within : i < record_count bytes
+  pub operand' : T (operand_fits s.machine.plan.threads s.machine.plan.sections (kind_at bytes i) (operand_at bytes i))
+  pub room : kind_at bytes i ≡ 7 → (view s).tick_number < last_tick
 
 -- What a step answers of a record: the state after it, and the broken rule, 0 if there is none. A broken rule leaves the state as it came.
 pub record Advances (after : State) (rule : ℕ) (s : State) (r : records.Record) : Type 0 where

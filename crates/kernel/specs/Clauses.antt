@@ -2,27 +2,27 @@
 use Rattle.std.specs.Prelude.{◌≡◌, true, List, [], ◌∷◌, map, ℕ, ◌+◌, ◌*◌, ◌/◌, ◌%◌, ◌≤◌, T, length, set}
 use Rattle.std.proofs.Math.Option.{Option, none}
 use Rattle.model.specs.Searches.{up_to}
-use Rattle.model.specs.Plan.{validPlan, ceiling}
+use Rattle.model.specs.Plan.{valid_plan, ceiling}
 use Rattle.model.specs.Records.{Record, report}
 use Rattle.model.specs.Formed.{formed}
-use Rattle.model.specs.Bench.{deliverAll, bench, calls_of}
+use Rattle.model.specs.Bench.{deliver_all, bench, calls_of}
 use Rattle.plan.specs.View as plans
 use Rattle.plan.specs.declared.Plan.{Plan}
 use Rattle.machine.specs.View.{plan_of, view}
 use Rattle.machine.specs.declared.state.State.{State}
-use Rattle.dump.specs.Layout.{recordCount, decode, kind_of, operandOf}
+use Rattle.dump.specs.Layout.{record_count, decode, kind_of, operand_of}
 use Rattle.dump.specs.Questions as dumps
-use Rattle.dump.specs.Questions.{mostRecords}
+use Rattle.dump.specs.Questions.{most_records}
 use Rattle.kernel.specs.declared.tally.Counted.{Counted}
 use Rattle.kernel.specs.declared.write.Placed.{Placed}
-use Rattle.kernel.specs.Answers.{isMade, recordsOf, bytesFor}
+use Rattle.kernel.specs.Answers.{is_made, records_of, bytes_for}
 
 -- what a run over the calls asks: a plan that passes, with its ceilings, and a call list of n calls that passes
 pub record Passed (p : Plan) (ceilings list : List ℕ) (n : ℕ) : Type 0 where
-  pub valid : T (validPlan (plans.view p))
+  pub valid : T (valid_plan (plans.view p))
   pub ceilings' : ceilings ≡ map (ceiling (plans.view p)) (up_to 16)
   pub passes : dumps.refusal p.threads p.sections true list ≡ none
-  pub count : n ≡ recordCount list
+  pub count : n ≡ record_count list
 
 -- the same as `made` of Answers, for the plan that the code has read
 abbrev pub made_of : Plan → (list : List ℕ) → Option (List Record)
@@ -32,21 +32,21 @@ made_of p list = bench (plans.view p) (calls_of (decode list))
 pub record Settles (r s : State) : Type 0 where
   pub plan' : r.machine.plan ≡ s.machine.plan
   pub holds' : r.machine.holds ≡ s.machine.holds
-  pub seen : view r ≡ deliverAll (view s)
+  pub seen : view r ≡ deliver_all (view s)
 
 -- whether every call is admitted, and how many records there are; 0 where one is not admitted
 pub record Tallies (r : Counted) (rs : Option (List Record)) : Type 0 where
-  pub admitted' : r.admitted ≡ isMade rs
-  pub records' : r.records ≡ length (recordsOf rs)
+  pub admitted' : r.admitted ≡ is_made rs
+  pub records' : r.records ≡ length (records_of rs)
 
 -- record i, of this kind and operand: its kind behind N, its operand at the running place
-abbrev pub recordPut : (i running kind operand : ℕ) → List ℕ → List ℕ
-recordPut i running k x out = set (set (set out (2 + i) k) running (x % 256)) (running + 1) (x / 256)
+abbrev pub record_put : (i running kind operand : ℕ) → List ℕ → List ℕ
+record_put i running k x out = set (set (set out (2 + i) k) running (x % 256)) (running + 1) (x / 256)
 
 -- some records, the first of them as record i
-abbrev pub recordsPut : (i running : ℕ) → List Record → List ℕ → List ℕ
-recordsPut i running [] out = out
-recordsPut i running (r ∷ rs) out = recordsPut (i + 1) (running + 2) rs (recordPut i running (kind_of r) (operandOf r) out)
+abbrev pub records_put : (i running : ℕ) → List Record → List ℕ → List ℕ
+records_put i running [] out = out
+records_put i running (r ∷ rs) out = records_put (i + 1) (running + 2) rs (record_put i running (kind_of r) (operand_of r) out)
 
 -- a well-formed state, and room for the kinds and the operands of its reports from record i on
 pub record ReportsFit (s : State) (i running : ℕ) (out : List ℕ) : Type 0 where
@@ -59,11 +59,11 @@ pub record Places (r : Placed) (s : State) (i running : ℕ) (before after : Lis
   pub settles : Settles r.state s
   pub records' : r.records ≡ i + length (view s).due
   pub running' : r.running ≡ running + 2 * length (view s).due
-  pub bytes : after ≡ recordsPut i running (map report (view s).due) before
+  pub bytes : after ≡ records_put i running (map report (view s).due) before
 
 -- every call is admitted, there are n records in all, and there is room for them
 pub record AllFit (rs : Option (List Record)) (n : ℕ) (out : List ℕ) : Type 0 where
-  pub admitted : T (isMade rs)
-  pub count : n ≡ length (recordsOf rs)
-  pub few : n ≤ mostRecords
-  pub room : bytesFor n ≤ length out
+  pub admitted : T (is_made rs)
+  pub count : n ≡ length (records_of rs)
+  pub few : n ≤ most_records
+  pub room : bytes_for n ≤ length out

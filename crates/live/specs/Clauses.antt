@@ -1,13 +1,13 @@
 -- What the live step asks and answers.
 use Rattle.std.specs.Prelude.{◌≡◌, List, ℕ, ◌<◌, T}
-use Rattle.model.specs.Formed.{lastTick, formed}
+use Rattle.model.specs.Formed.{last_tick, formed}
 use Rattle.plan.specs.Bytes as plans
 use Rattle.plan.specs.Bytes.{number}
 use Rattle.machine.specs.declared.state.State.{State}
 use Rattle.lists.specs.Lists.{top_of}
 use Rattle.machine.specs.View.{plan_of, view}
 use Rattle.machine.specs.Kept.{kept}
-use Rattle.dump.specs.Questions.{operandFits}
+use Rattle.dump.specs.Questions.{operand_fits}
 use Rattle.live.specs.declared.live.Watch.{Watch}
 use Rattle.live.specs.declared.live.Begun.{Begun}
 use Rattle.live.specs.declared.live.Reply as replies
@@ -20,8 +20,8 @@ use Rattle.live.specs.Watching.{Watched, begin, reply, after}
 pub record Asked (s : State) (kind operand : ℕ) : Type 0 where
   pub formed' : T (formed (plan_of s.machine) (view s))
   pub keeps : T (kept s.machine)
-  pub operand' : T (operandFits s.machine.plan.threads s.machine.plan.sections kind operand)
-  pub room : kind ≡ 7 → (view s).tickNumber < lastTick
+  pub operand' : T (operand_fits s.machine.plan.threads s.machine.plan.sections kind operand)
+  pub room : kind ≡ 7 → (view s).tick_number < last_tick
 
 -- the watch state that a struct stands for
 abbrev pub seen : Watch → Watched
@@ -32,14 +32,14 @@ pub record Begins (r : Begun) (plan : List ℕ) : Type 0 where
   pub answer : r.refused ≡ number (plans.refusal plan)
   pub leaves : seen r.watch ≡ begin plan
 
-abbrev pub replyAs : replies.Reply → watching.Reply
-replyAs (says.Refused n) = watching.refused n
-replyAs (says.Clean d) = watching.clean d
-replyAs (says.Broken r) = watching.broken r
+abbrev pub reply_as : replies.Reply → watching.Reply
+reply_as (says.Refused n) = watching.refused n
+reply_as (says.Clean d) = watching.clean d
+reply_as (says.Broken r) = watching.broken r
 
 -- What a live step answers and leaves, of every lent state whatsoever.
 pub record Tells (r : Told) (w : Watch) (kind operand : ℕ) : Type 0 where
-  pub answer : replyAs r.reply ≡ reply (seen w) kind operand
+  pub answer : reply_as r.reply ≡ reply (seen w) kind operand
   pub leaves : seen r.watch ≡ after (seen w) kind operand
   -- where the answer is 12, 7, 8 or 13 the struct is the one that came in, whole
   pub refused' : (q : ℕ) → reply (seen w) kind operand ≡ watching.refused q → r.watch ≡ w
