@@ -18,6 +18,7 @@ use Rattle.model.proofs.Tests.{split, is_true, is_false, from_true, from_false, 
 
 module _ {A : Type 0} where
   pub all_at : (f : A → Bool) (l : List A) → T (all f l) → {a : A} → Mem a l → T (f a)
+  all_at f [] t {a = a} x'' = elim x'' [ ]
   all_at f (b ∷ l) t (here e) = subst (λ x. T (f x)) (sym e) (and_left (f b) (all f l) t)
   all_at f (b ∷ l) t (there m) = all_at f l (and_right (f b) (all f l) t) m
 
@@ -44,6 +45,7 @@ module _ {A : Type 0} where
       go false e u k = (b, here refl, from_false (f b) e)
 
   pub any_at : (f : A → Bool) (l : List A) {a : A} → Mem a l → T (f a) → T (any f l)
+  any_at f [] {a = a} x'' t = elim x'' [ ]
   any_at f (b ∷ l) (here e) t = or_left (f b) (any f l) (subst (λ x. T (f x)) e t)
   any_at f (b ∷ l) (there m) t = or_right (f b) (any f l) (any_at f l m t)
 
@@ -56,6 +58,7 @@ module _ {A : Type 0} where
       go false e u k = let r = k u in (r.0, there r.1, r.2)
 
   pub any_fails : (f : A → Bool) (l : List A) → T (not (any f l)) → {a : A} → Mem a l → T (not (f a))
+  any_fails f [] t {a = a} x'' = elim x'' [ ]
   any_fails f (b ∷ l) t (here e) = subst (λ x. T (not (f x))) (sym e) (nor_left (f b) (any f l) t)
   any_fails f (b ∷ l) t (there m) = any_fails f l (nor_right (f b) (any f l) t) m
 
@@ -69,6 +72,7 @@ module _ {A : Type 0} where
       go false e n k = let r = k n in (there r.0, r.1)
 
   pub in_filter : (f : A → Bool) (l : List A) {a : A} → Mem a l → T (f a) → Mem a (filter f l)
+  in_filter f [] {a = a} x'' t = elim x'' [ ]
   in_filter f (b ∷ l) {a} (here q) t = rw (is_true (f b) (subst (λ x. T (f x)) q t)) (here q)
   in_filter f (b ∷ l) {a} (there m) t = go (f b) (in_filter f l m t)
     where
@@ -100,6 +104,7 @@ module _ {A : Type 0} where
   greatest_none f (b ∷ l) e m = some-ne-none (better f b (first_greatest f l)) e
 
   pub greatest_some : (f : A → ℕ) (l : List A) {a : A} → Mem a l → (b : A) × (first_greatest f l ≡ some b)
+  greatest_some f [] {a = a} m = elim m [ ]
   greatest_some f (b ∷ l) m = (better f b (first_greatest f l), refl)
 
   -- one of the list, and none of it has a greater value
@@ -133,6 +138,7 @@ module _ {A : Type 0} where
           cases (inr h) = let z : a ≡ b = sym i ∙ h.0 in above (inl z) (omega (arith, ap f z)) (λ d m. omega (arith, r.1 d m, h.1, ap f z))
 
   pub greatest_ge : (f : A → ℕ) (l : List A) {a : A} → Mem a l → f a ≤ greatest f l
+  greatest_ge f [] {a = a} x' = elim x' [ ]
   greatest_ge f (b ∷ l) (here e) = omega (arith, ap f e)
   greatest_ge f (b ∷ l) (there m) = omega (arith, greatest_ge f l m)
 
@@ -168,6 +174,7 @@ module _ {A : Type 0} where
       low b (inr n) = x a b (here refl) n
 
   pub pairwise_at : (R : A → A → Type 0) (l : List A) → Pairwise R l → (a b : A) → Mem a l → Mem b l → (a ≡ b) ⊎ (R a b ⊎ R b a)
+  pairwise_at R [] h a b x3 _ = elim x3 [ ]
   pairwise_at R (c ∷ l) h a b (here e) (here f) = inl (e ∙ sym f)
   pairwise_at R (c ∷ l) h a b (here e) (there n) = inr (inl (rw e (h.0 b n)))
   pairwise_at R (c ∷ l) h a b (there m) (here f) = inr (inr (rw f (h.0 a m)))

@@ -34,6 +34,7 @@ ready_stays (u ∷ ts) cs t e = ready_stays ts (set cs u ready) t (go (equal? t 
     go (inr d) = set_other cs u t ready d ∙ e
 
 pub all_ready_own : (ts : List ℕ) (cs : List Condition) (t : ℕ) → t < length cs → Mem t ts → get_or (all_ready ts cs) t dormant ≡ ready
+all_ready_own [] cs t h x'' = elim x'' [ ]
 all_ready_own (u ∷ ts) cs t h (here e) = ready_stays ts (set cs u ready) t (set_own cs u t ready (subst (λ (x : ℕ). x < length cs) e h) e)
 all_ready_own (u ∷ ts) cs t h (there m) = all_ready_own ts (set cs u ready) t (omega (arith, length-set cs u ready)) m
 
