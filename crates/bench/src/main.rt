@@ -1,5 +1,6 @@
 // The program bench: a plan and a call list from standard input, the dump's bytes to standard output; on a refusal nothing there, and one
 // line to standard error.
+#![tactic(auto)]
 ghost use Rattle.std.specs.Prelude.{◌≡◌, length, take};
 ghost use Rattle.io.specs.Counts.{IsPrefixLen};
 ghost use Rattle.kernel.specs.Answers.{answer_of};

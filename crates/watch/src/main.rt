@@ -1,4 +1,5 @@
 // The program watch: a plan and a dump from standard input, one line of answer to standard output.
+#![tactic(auto)]
 ghost use Rattle.std.specs.Prelude.{◌≡◌, take};
 ghost use Rattle.io.specs.Counts.{IsPrefixLen};
 ghost use Rattle.monitor.specs.Answers.{answer_of};
