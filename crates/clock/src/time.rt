@@ -11,10 +11,10 @@ pub const LAST_WAKE: Tick = Tick(4000065536);
 pub const LAST_EXPIRY: Tick = Tick(4000065535);
 
 #[repr(C)]
-#[derive(Drop)]
+#[derive(Clone, Copy)]
 pub struct Tick(pub u32);
 
-#[derive(Drop)]
+#[derive(Clone, Copy)]
 pub struct Wait(pub u32);
 
 impl Tick {

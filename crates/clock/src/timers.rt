@@ -16,7 +16,7 @@ pub const TIMERS: usize = 8;
 // How far an arming has come: 0 where none is in progress, 1 after Arm, 2 after Start; with the timer and the start that it was given. A start is
 // a tick number of two bytes.
 #[repr(C)]
-#[derive(Drop)]
+#[derive(Clone, Copy)]
 pub struct Arming {
     pub stage: u8,
     pub timer: u8,
@@ -26,7 +26,7 @@ pub struct Arming {
 // The tick number of each timer's next expiry, 0 where it is not armed, since no timer expires at tick number 0; and its period, 0 for an alarm. A
 // period is a wait of two bytes.
 #[repr(C)]
-#[derive(Drop)]
+#[derive(Clone, Copy)]
 pub struct Timers {
     pub expiries: [Tick; TIMERS],
     pub periods: [u16; TIMERS],

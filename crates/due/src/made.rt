@@ -6,7 +6,7 @@ ghost use Rattle.due.specs.Lists.{report_by, Tells};
 use crate::reports::Report;
 
 // What a call other than Tick makes due before its Switch: the first `count` of two reports.
-#[derive(Drop)]
+#[derive(Clone, Copy)]
 pub struct Made {
     pub first: Report,
     pub second: Report,

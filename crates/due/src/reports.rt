@@ -16,7 +16,7 @@ pub const ROOM: usize = 25;
 // A kind by its number, 16 to 22, and its operand as in a dump: the thread that it names, 65535 for nobody; the timer of an Expire; the count of a
 // Late. The spare byte means nothing; it is named so that reports are copied whole.
 #[repr(C)]
-#[derive(Drop)]
+#[derive(Clone, Copy)]
 pub struct Report {
     pub kind: u8,
     pub spare: u8,
@@ -24,7 +24,7 @@ pub struct Report {
 }
 
 #[repr(C)]
-#[derive(Drop)]
+#[derive(Clone, Copy)]
 pub struct Reports {
     pub items: [Report; ROOM],
     pub count: usize,

@@ -6,7 +6,7 @@ ghost use Rattle.dump.specs.Questions.{most_records, Whole};
 use plan::words::word_at;
 
 // A record's two numbers.
-#[derive(Drop)]
+#[derive(Clone, Copy)]
 pub struct Entry {
     pub kind: u8,
     pub operand: u16,

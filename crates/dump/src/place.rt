@@ -7,7 +7,7 @@ use crate::layout::{Entry, kind_at};
 use plan::words::word_at;
 
 // The dump and the next record's number.
-#[derive(Drop)]
+#[derive(Clone, Copy)]
 pub struct Place<'a> {
     pub bytes: &'a [u8],
     pub number: usize,

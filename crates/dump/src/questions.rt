@@ -23,7 +23,7 @@ pub fn kind_allowed(list: bool, kind: u8) -> bool
 }
 
 // What an operand may be: from low on and below end, and 65535 where nobody may be named.
-#[derive(Drop)]
+#[derive(Clone, Copy)]
 pub struct Bounds {
     pub end: u32,
     pub low: u16,

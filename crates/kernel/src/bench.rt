@@ -10,7 +10,7 @@ use plan::bytes;
 use plan::ceilings::ceilings;
 
 // What the bench kernel answers: the question that refuses, or the number of records written.
-#[derive(Drop)]
+#[derive(Clone, Copy)]
 pub enum Written {
     Refused(u8),
     Wrote(usize),

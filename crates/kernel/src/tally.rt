@@ -10,7 +10,7 @@ use plan::Plan;
 use walk::single::step;
 
 // Whether every call is admitted, and how many records there are, 0 where one is not.
-#[derive(Drop)]
+#[derive(Clone, Copy)]
 pub struct Counted {
     pub admitted: bool,
     pub records: usize,

@@ -10,7 +10,7 @@ use plan::Plan;
 use walk::single::step;
 
 // A state, how many records are written, and the running place behind them.
-#[derive(Drop)]
+#[derive(Clone, Copy)]
 pub struct Placed {
     pub state: State,
     pub records: usize,

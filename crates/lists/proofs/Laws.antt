@@ -36,4 +36,5 @@ length-held hs = held-length hs.count hs.sections hs.threads
 
 -- every number of a word is below sixteen
 pub nibbles_small : (n w t : ℕ) → Mem t (nibbles n w) → t < 16
+nibbles_small Prim.Native.Nat.zero w t i = elim i [ ]
 nibbles_small (suc n) w t i = elim (cases_cons i) [ inl e ↦ omega arith | inr j ↦ nibbles_small n (w / 16) t j ]

@@ -1,5 +1,5 @@
 -- The laws of the loops over a queue, where what is left of its word gives the answer, and of a list with one more at its end.
-use mathlib.Core.Path.{◌≡◌, refl, ap, sym, ◌∙◌}
+use mathlib.Core.Path.{◌≡◌, refl, ap, sym, ◌∙◌, subst}
 use mathlib.Core.Logic.{◌⊎◌, inl, inr, ◌≢◌}
 use mathlib.Core.Bool.{Bool, true, false, cond, not}
 use mathlib.Core.List.Memᴰ.{head as here}
@@ -81,13 +81,18 @@ counted found l k t h = go (equal? k t)
     go (inl e) = rw (e, eq-eqb t t refl) (omega (arith, e, get_or-set_same found t (entry_of found t + 1) 0 (omega (arith, e))))
     go (inr n) = rw (ne_eqb k t n, get_or-set_other found k t (entry_of found k + 1) 0 (λ e. n (sym e)))
 
+one_more : (x y n : ℕ) → x ≡ y + 1 → x + n ≡ y + suc n
+one_more x y n e = omega (arith, e)
+
 -- and one that counts it at its place of a word
 pub marked : (w : ℕ) (l : List ℕ) (k t : ℕ) → nibble w k + 1 < 16
     → nibble (with_nibble w k (nibble w k + 1)) t + times (λ u. eqb u t) l ≡ nibble w t + times (λ u. eqb u t) (k ∷ l)
 marked w l k t h = go (equal? k t)
   where
     go : (k ≡ t) ⊎ (k ≢ t) → nibble (with_nibble w k (nibble w k + 1)) t + times (λ u. eqb u t) l ≡ nibble w t + times (λ u. eqb u t) (k ∷ l)
-    go (inl e) = rw (sym e, eq-eqb k k refl) (omega (arith, read_set w k (nibble w k + 1) h))
+    go (inl e) =
+        subst (λ x. nibble (with_nibble w k (nibble w k + 1)) x + times (λ u. eqb u x) l ≡ nibble w x + times (λ u. eqb u x) (k ∷ l)) e
+        (rw (eq-eqb k k refl) (one_more (nibble (with_nibble w k (nibble w k + 1)) k) (nibble w k) (times (λ u. eqb u k) l) (read_set w k (nibble w k + 1) h)))
     go (inr n) = rw (ne_eqb k t n) (ap (λ x. x + times (λ u. eqb u t) l) (read_other w k t (nibble w k + 1) h (λ e. n (sym e))))
 
 pub times_within : (f : ℕ → Bool) (n w : ℕ) → times f (nibbles n w) ≤ n

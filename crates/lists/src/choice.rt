@@ -9,7 +9,7 @@ use crate::holds::Holds;
 use crate::queue::Queue;
 
 // The waiting thread that a Give turns to, 255 for nobody, and whether no held ceiling bars it.
-#[derive(Drop)]
+#[derive(Clone, Copy)]
 pub struct Heir {
     pub who: u8,
     pub free: bool,

@@ -16,7 +16,7 @@ use crate::top::Top;
 // Sections and the threads that hold them, the latest in the lowest four bits; bits at `count` and above mean nothing. `top` has the owner, so that
 // nobody need walk to find it.
 #[repr(C)]
-#[derive(Drop)]
+#[derive(Clone, Copy)]
 pub struct Holds {
     pub sections: u64,
     pub threads: u64,

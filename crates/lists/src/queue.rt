@@ -10,7 +10,7 @@ use plan::order::greater;
 
 // The first in the lowest four bits of `items`; bits at `count` and above mean nothing.
 #[repr(C)]
-#[derive(Drop)]
+#[derive(Clone, Copy)]
 pub struct Queue {
     pub items: u64,
     pub count: usize,

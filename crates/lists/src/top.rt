@@ -5,7 +5,7 @@ ghost use Rattle.lists.specs.Lists.{top_of};
 
 // The thread holding the section of greatest ceiling, on a tie the one taken later, and that ceiling; 255 and 0 when nothing is held.
 #[repr(C)]
-#[derive(Drop)]
+#[derive(Clone, Copy)]
 pub struct Top {
     pub owner: u8,
     pub ceiling: u8,

@@ -22,28 +22,28 @@ use walk::single::{Stepped, step};
 
 // A state of the machine and the rule of a breach that is stored, 0 if there is none. Plain numbers only, since it may be lent from outside.
 #[repr(C)]
-#[derive(Drop)]
+#[derive(Clone, Copy)]
 pub struct Watch {
     pub state: State,
     pub rule: u8,
 }
 
 // The question that refuses a plan, 0 if there is none, and the watch state made of it.
-#[derive(Drop)]
+#[derive(Clone, Copy)]
 pub struct Begun {
     pub refused: u8,
     pub watch: Watch,
 }
 
 // What a live step answers: the question that refuses it; clean, with the number due; or the broken rule.
-#[derive(Drop)]
+#[derive(Clone, Copy)]
 pub enum Reply {
     Refused(u8),
     Clean(usize),
     Broken(u8),
 }
 
-#[derive(Drop)]
+#[derive(Clone, Copy)]
 pub struct Told {
     pub watch: Watch,
     pub reply: Reply,

@@ -21,7 +21,7 @@ use slots::Slots;
 // Plain numbers only, since a state may be lent from outside. `wakes` has the tick number that each sleeper waits for, `delays` the sleepers in order of
 // their Delay calls; `reported` is the thread of the latest Switch given, 255 for nobody.
 #[repr(C)]
-#[derive(Drop)]
+#[derive(Clone, Copy)]
 pub struct Machine {
     pub plan: Plan,
     pub tick: Tick,

@@ -3,7 +3,7 @@ use clock::time::Wait;
 use due::reports::Report;
 
 // A call with its operand, or a report.
-#[derive(Drop)]
+#[derive(Clone, Copy)]
 pub enum Record {
     Create(u8),
     Delay(Wait),

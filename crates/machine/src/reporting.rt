@@ -21,7 +21,7 @@ use plan::Plan;
 // `count` reports stand in the array; `due` is how many were due after the latest call, one more where a Switch is among them, to the thread `chosen`
 // after it. The first `given` are given.
 // Nothing happens before the tick number `quiet`. `rule` is the one that the latest record broke, 0 if there is none.
-#[derive(Drop)]
+#[derive(Clone, Copy)]
 pub struct Reporting {
     pub machine: Machine,
     pub reports: [Report; ROOM],

@@ -8,7 +8,7 @@ use clock::time::{LAST_WAKE, Tick};
 use lists::queue::Queue;
 
 // What a Tick leaves of the threads: their conditions and the queue, those that sleep on, and those that woke, both in the order of their Delays.
-#[derive(Drop)]
+#[derive(Clone, Copy)]
 pub struct Woken {
     pub slots: Slots,
     pub queue: Queue,

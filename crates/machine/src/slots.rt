@@ -8,7 +8,7 @@ use lists::nibbles::{nibble_at, with_nibble};
 // A condition for each thread by its number, in four bits: 0 dormant, 1 ready, 2 asleep until a tick number, 3 waiting for a section; and in
 // `wants` that section. The tick numbers stand beside it, so that a call that puts nobody to sleep copies none.
 #[repr(C)]
-#[derive(Drop)]
+#[derive(Clone, Copy)]
 pub struct Slots {
     pub states: u64,
     pub wants: u64,

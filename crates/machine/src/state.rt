@@ -13,7 +13,7 @@ use plan::Plan;
 
 // The reports due are those behind the first `given`.
 #[repr(C)]
-#[derive(Drop)]
+#[derive(Clone, Copy)]
 pub struct State {
     pub machine: Machine,
     pub due: Reports,

@@ -11,7 +11,7 @@ use walk::walk::walk;
 
 // What the watch answers. Document 01's words: refused, with the question; clean, with records and due; breach, with the record, from 0, and
 // the rule.
-#[derive(Drop)]
+#[derive(Clone, Copy)]
 pub enum Verdict {
     Refused(u8),
     Clean(usize, usize),

@@ -10,7 +10,7 @@ pub mod input; // input.rt: a plan in front of something else
 
 // Plain numbers, so that a plan can stand in a state that is lent from outside.
 #[repr(C)]
-#[derive(Drop)]
+#[derive(Clone, Copy)]
 pub struct Plan {
     pub threads: usize,
     pub sections: usize,

@@ -7,7 +7,7 @@ use crate::walk::walk;
 use machine::state::State;
 
 // The state after a record, and the broken rule, 0 if there is none.
-#[derive(Drop)]
+#[derive(Clone, Copy)]
 pub struct Stepped {
     pub state: State,
     pub rule: u8,

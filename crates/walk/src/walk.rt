@@ -10,7 +10,7 @@ use machine::record::Record;
 use machine::state::State;
 
 // Where a walk ended: the state, the number of the record behind those that moved it, and the rule that this one breaks, 0 if there is none.
-#[derive(Drop)]
+#[derive(Clone, Copy)]
 pub struct Walked {
     pub state: State,
     pub at: usize,

@@ -1,0 +1,22 @@
+-- `marks` meets its contract: what each place of the word counts, and how often its number is left, is what it counted at first and how often its number stands in the other word.
+use mathlib.Core.Path.{◌≡◌, refl, ◌∙◌}
+use Prim.Native.Nat.{ℕ, ◌+◌, ◌-◌, ◌/◌, ◌%◌, ◌^◌, ◌<◌}
+use native.Mathlib.Omega.{arith}
+use borrow.Author.Rules.{rules}
+use borrow.Author.Tests.{eq-eqb}
+use lib.Dec.{eqb}
+use Rattle.model.specs.Formed.{times}
+use Rattle.lists.specs.Words.{nibble, with_nibble, nibbles}
+use Rattle.lists.proofs.Words.{one_more, set-fits}
+use Rattle.lists.proofs.Queues.{first, ended, marked, times_within}
+use Rattle.lists.proofs.nibbles.marks.Given as goal
+
+-- what each place of the word counts, and how often its number is left
+abbrev pub Counts : (start word count total rest left : ℕ) → Type 0
+Counts start word count total rest left = (t : ℕ) → t < 16 → nibble total t + times (λ u. eqb u t) (nibbles left rest) ≡ nibble start t + times (λ u. eqb u t) (nibbles count word)
+
+abbrev pub invariant-loop-left : goal.invariant-loop-left
+invariant-loop-left l = (l.total < 2 ^ 64) × Counts l.start l.word l.count l.total l.rest l.left
+
+abbrev pub decreases-loop-left : goal.decreases-loop-left
+decreases-loop-left l = l.left

@@ -1,0 +1,22 @@
+-- `tally` meets its contract: what each place of the table counts, and how often its number is left, is how often it stands in the word.
+use mathlib.Core.Path.{◌≡◌, ap, sym, ◌∙◌}
+use mathlib.Core.List.{List, map}
+use Prim.Native.Nat.{ℕ, ◌+◌, ◌-◌, ◌/◌, ◌%◌, ◌<◌}
+use native.Mathlib.Omega.{arith}
+use borrow.Author.Rules.{rules}
+use lib.Dec.{eqb}
+use lib.ListN.{length, length-set, get_or-replicate}
+use lib.Seq.{ext_get_or}
+use Rattle.model.specs.Searches.{up_to}
+use Rattle.model.specs.Formed.{times}
+use Rattle.model.proofs.Loops.{listed, length-listed}
+use Rattle.lists.specs.Words.{nibbles, entry_of}
+use Rattle.lists.proofs.Queues.{first, ended, counted, times_within}
+use Rattle.lists.proofs.nibbles.tally.Given as goal
+
+abbrev pub invariant-loop-left : goal.invariant-loop-left
+invariant-loop-left l =
+    (length l.found ≡ 16) × ((t : ℕ) → t < 16 → entry_of l.found t + times (λ u. eqb u t) (nibbles l.left l.rest) ≡ times (λ u. eqb u t) (nibbles l.count l.word))
+
+abbrev pub decreases-loop-left : goal.decreases-loop-left
+decreases-loop-left l = l.left

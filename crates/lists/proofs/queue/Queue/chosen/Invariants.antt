@@ -1,0 +1,20 @@
+-- `Queue::chosen` meets its contract: the one kept so far, or the first of greatest current priority among those left if that is greater, is the one chosen.
+use mathlib.Core.Path.{◌≡◌, ap, sym, ◌∙◌}
+use mathlib.Core.Logic.{⊎_elim}
+use Prim.Native.Nat.{◌-◌, ◌/◌, ◌%◌, ◌<◌}
+use native.Mathlib.Omega.{arith}
+use borrow.Author.Rules.{rules}
+use borrow.Author.Tests.{ne_eqb}
+use Rattle.model.specs.Searches.{first_greatest}
+use Rattle.lists.specs.Words.{nibbles, entry_of}
+use Rattle.lists.specs.Lists.{numbered, current_in, queued}
+use Rattle.lists.proofs.Queues.{first, ended, overtaken, replaced, stayed, nobody, base_current}
+use Rattle.lists.proofs.queue.Queue.chosen.Given as goal
+
+abbrev pub invariant-loop-left : goal.invariant-loop-left
+invariant-loop-left l =
+    let f = current_in (entry_of l.bases) l.owner l.urgency in
+    overtaken f l.who l.top (first_greatest f (nibbles l.left l.rest)) ≡ numbered (first_greatest f (nibbles l.initial.left l.initial.rest))
+
+abbrev pub decreases-loop-left : goal.decreases-loop-left
+decreases-loop-left l = l.left
