@@ -1,4 +1,4 @@
--- `record_of_lem` meets its contract: by its kind, each entry is the machine's record that stands for the model's.
+-- `record_of` meets its contract: by its kind, each entry is the machine's record that stands for the model's.
 use mathlib.Core.Path.{◌≡◌, refl, ap}
 use mathlib.Core.Logic.{◌⊎◌, inl, inr, ◌≢◌}
 use mathlib.Core.Bool.{false, not}

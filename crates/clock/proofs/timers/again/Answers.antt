@@ -8,22 +8,15 @@ use borrow.Author.Tests.{eq-eqb, ne_eqb}
 use Rattle.model.specs.Timers.{timer, again}
 use Rattle.clock.specs.View.{slot_of}
 use Rattle.clock.proofs.Slots.{is_armed_lem}
-use Rattle.clock.proofs.timers.again.Statement.{statement}
-use Rattle.clock.proofs.timers.again.Tie as tie
+use Rattle.clock.proofs.timers.again.Goals as goal
+use Rattle.clock.proofs.timers.again.Goals.{Start}
 
-returns : tie.Need-returns
-returns c = rw (eq-eqb c.before.args.period 0 c.if1.true)
-
-plus-requires : tie.Need-plus-requires
-plus-requires c κs = search rules
+pub returns-then-period-eq0 : goal.returns-then-period-eq0
+returns-then-period-eq0 c = rw (eq-eqb c.args.period 0 c.if-period-eq0.true)
 
 periodic : (e k n : ℕ) → 0 < k → n ≢ 0 → e ≡ k + n → slot_of e n ≡ again (timer k n)
 periodic e k n h d s = ap (λ x. slot_of x n) s ∙ is_armed_lem {e = k + n} n (λ z. omega arith) ∙ (rw (ne_eqb n 0 d))
 
-returns-2 : tie.Need-returns-2
-returns-2 c =
-    let k = c.before.before in
-    periodic c.plus.result.0 k.args.now.0 k.args.period k.requires.0 c.before.if1.false c.plus.ensures
-
-pub again_spec : {M : Type 1} → statement M
-again_spec = tie.close (tie.spec returns plus-requires returns-2)
+pub returns : goal.returns
+returns c =
+    periodic c.plus.result.0 c.args.now.0 c.args.period c.requires.0 c.if-period-eq0.false c.plus.ensures

@@ -20,8 +20,8 @@ use Rattle.clock.specs.Clauses.{Comes}
 use Rattle.clock.proofs.Sized.{expiries_size, periods_size}
 use Rattle.clock.proofs.Slots.{slots_set}
 use Rattle.clock.proofs.Stages.{after_start_lem, timer_known}
-use Rattle.clock.proofs.timers.Timers.armed.Statement.{statement}
-use Rattle.clock.proofs.timers.Timers.armed.Tie as tie
+use Rattle.clock.proofs.timers.Timers.armed.Goals as goal
+use Rattle.clock.proofs.timers.Timers.armed.Goals.{Start, Then-admitted, else-admitted, then-admitted}
 
 module _ (t : Timers) (k n : ℕ) (c : Comes t 2) where
   abbrev i : ℕ
@@ -39,45 +39,28 @@ module _ (t : Timers) (k n : ℕ) (c : Comes t 2) where
       ∙ ap (set (view t).slots i) q)
       ∙ sym (ap (λ (m : model.Arming). idle (set (view t).slots (timer_given m) (armed_at k (start_given (view t).arming) n))) (after_start_lem t c))
 
-cast-i : tie.Need-overflow-cast-i
-cast-i c = search rules
-
-abbrev begin : tie.Then1 → tie.Start
+abbrev begin : goal.Then-admitted → goal.Start
 begin t = t.before.before.before.before
 
-first-expiry-requires : tie.Need-first-expiry-requires
-first-expiry-requires c κs = (begin c.before).requires
+pub first_expiry-requires : goal.first_expiry-requires
+first_expiry-requires c = (begin (goal.at.first_expiry-requires c).Then-admitted).requires
 
-mul-expiries : tie.Need-overflow-mul-expiries
-mul-expiries c = search rules
+pub bounds-expiries-i : goal.bounds-expiries-i
+bounds-expiries-i c = let s = begin (goal.at.bounds-expiries-i c).Then-admitted in timer_known s.args.self s.requires.0
 
-array-set-from-expiries : tie.Need-array-set-from-expiries
-array-set-from-expiries c = let s = begin c.before.before in timer_known s.args.self s.pre.0
-
-mul-periods : tie.Need-overflow-mul-periods
-mul-periods c = search rules
-
-array-write-periods : tie.Need-array-write-periods
-array-write-periods c = let s = begin c.before.before in timer_known s.args.self s.pre.0
+pub bounds-periods-i : goal.bounds-periods-i
+bounds-periods-i c = let s = begin (goal.at.bounds-periods-i c).Then-admitted in timer_known s.args.self s.requires.0
 
 -- timers of the same numbers
 alike : {es es' : List Tick} {ps ps' : List ℕ} {a a' : Arming} → a ≡ a' → es ≡ es' → ps ≡ ps'
     → view (record { expiries = es; periods = ps; arming = a }) ≡ view (record { expiries = es'; periods = ps'; arming = a' })
 alike p q r = λ i. view (record { expiries = q i; periods = r i; arming = p i })
 
-returns : tie.Need-returns
+pub returns : goal.returns
 returns c =
-    let s = c.before.before.before.before in
-    let a = s.args in
+    let a = c.args in
     let t = a.self in
     let to = set_timer (Period a.period) a.now.0 (view t) in
-    ⊎_elim
-    (λ w.
-    alike w.3 w.4 w.5
-    ∙ stored t a.now.0 a.period s.requires.0 w.2.result (expiries_size t s.well-formed.0) (periods_size t s.well-formed.0) w.2.ensures
-    ∙ sym (ap (λ b. cond b to (view t)) w.0.taken))
-    (λ w. alike w.1 w.2 w.3 ∙ sym (ap (λ b. cond b to (view t)) w.0.left))
-    c.if1.branch
-
-pub armed-spec : {M : Type 1} → statement M
-armed-spec = tie.close (tie.spec cast-i first-expiry-requires mul-expiries array-set-from-expiries mul-periods array-write-periods returns)
+    elim c.if-admitted.branch [ then-admitted w ↦ alike w.a-is w.expiries-is w.periods-is
+    ∙ stored t a.now.0 a.period c.requires.0 w.first_expiry.result (expiries_size t c.well_formed.0) (periods_size t c.well_formed.0) w.first_expiry.ensures
+    ∙ sym (ap (λ b. cond b to (view t)) w.if-admitted.true) | else-admitted w ↦ alike w.a-is w.expiries-is w.periods-is ∙ sym (ap (λ b. cond b to (view t)) w.if-admitted.false) ]

@@ -18,12 +18,9 @@ use Rattle.model.proofs.Loops.{AllPass, all_begin, pass_kept, pass_lost, all_ask
 use Rattle.clock.specs.declared.time.Tick.{Tick}
 use Rattle.clock.specs.View.{number_at, slot_of}
 use Rattle.clock.specs.Clauses.{soonest}
-use Rattle.clock.proofs.timers.Timers.all_after.Statement.{statement}
-use Rattle.clock.proofs.timers.Timers.all_after.Tie as tie
-
--- what is asked of one expiry
-abbrev after : (number expiry : ℕ) → Bool
-after n e = eqb e 0 || ltb n e
+use Rattle.clock.proofs.timers.Timers.all_after.Invariants.{after}
+use Rattle.clock.proofs.timers.Timers.all_after.Goals as goal
+use Rattle.clock.proofs.timers.Timers.all_after.Goals.{At-loop-i, else-expiry-ne0, else-expiry-ne0-via-else-expiry-ne0, else-expiry-ne0-via-then-expiry-ne0+else-expiry-number, then-expiry-ne0+then-expiry-number}
 
 -- above the lesser of two is above both
 above-least : (n a b : ℕ) → ltb n (min a b) ≡ ltb n a && ltb n b
@@ -47,51 +44,23 @@ module _ (n : ℕ) (h : n < last_wake) (numbers : List Tick) (periods : List ℕ
         | inr d ↦ rw (ne_eqb e 0 d) (ap (λ b. ltb n e && b) (all_pass l) ∙ sym (above-least n e (soonest (map slot_here l))))
       ]
 
-abbrev invariant-loop : tie.invariant-loop
-invariant-loop number all' pass₀ i₀ pass i = (i ≤ 8) × AllPass (after number.0) (number_at all') 8 i pass
+pub loop-i-init : goal.loop-i-init
+loop-i-init c = let a = c.args in (omega arith, all_begin (after a.number.0) (number_at a.self.expiries) 8)
 
-abbrev decreases-loop : tie.decreases-loop
-decreases-loop number all' pass₀ i₀ pass i = 8 - i
-
-loop-holds : tie.Need-loop-init invariant-loop decreases-loop
-loop-holds c = let a = c.before.args in (omega arith, all_begin (after a.number.0) (number_at a.self.expiries) 8)
-
-mul-expiry : tie.Need-overflow-mul-expiry invariant-loop decreases-loop
-mul-expiry c = search rules
-
-array-copy-out-expiry : tie.Need-array-copy-out-expiry invariant-loop decreases-loop
-array-copy-out-expiry c = search rules
-
-add-i : tie.Need-overflow-add-i invariant-loop decreases-loop
-add-i c = search rules
-
-loop-less : tie.Need-loop-smaller invariant-loop decreases-loop
-loop-less c = search rules
-
-loop-again : tie.Need-loop-preserved invariant-loop decreases-loop
-loop-again c =
-    let k = c.before.before.before.before in
-    let a = k.before.before.args in
+pub loop-i-preserved : goal.loop-i-preserved
+loop-i-preserved c =
+    let a = c.args in
     let n = a.number.0 in
     let expiry : ℕ → ℕ = number_at a.self.expiries in
-    let i = k.loop.i in
-    let lost = pass_lost (after n) expiry 8 i k.loop.pass (omega arith) k.loop.invariant.1 c.if1.pass in
-    let kept = pass_kept (after n) expiry 8 i k.loop.pass (omega arith) k.loop.invariant.1 c.if1.pass in (
+    let i = c.loop-i.i in
+    let lost = pass_lost (after n) expiry 8 i c.loop-i.pass (omega arith) c.loop-i.invariant.1 c.if-expiry-ne0.pass in
+    let kept = pass_kept (after n) expiry 8 i c.loop-i.pass (omega arith) c.loop-i.invariant.1 c.if-expiry-ne0.pass in (
       omega arith,
-      ⊎_elim
-          (λ p. lost p.4 (rw (ne_eqb (expiry i) 0 p.0.taken) (le-ltb n (expiry i) (leb-true (expiry i) n p.3.taken))))
-          (λ p. kept p.1 (⊎_elim (λ u. rw (ne_eqb (expiry i) 0 u.0.taken) (lt-ltb n (expiry i) (leb-false (expiry i) n u.3.left))) (λ u. rw (eq-eqb (expiry i) 0 u.left)) p.0.came))
-          c.if1.branch,
+      elim c.if-expiry-ne0.branch [ then-expiry-ne0+then-expiry-number p ↦ lost p.pass-is (rw (ne_eqb (expiry i) 0 p.if-expiry-ne0.true) (le-ltb n (expiry i) (leb-true (expiry i) n p.if-expiry-number.true-raw))) | else-expiry-ne0 p ↦ kept p.pass-is (elim p.else-expiry-ne0.branch [ else-expiry-ne0-via-then-expiry-ne0+else-expiry-number u ↦ rw (ne_eqb (expiry i) 0 u.if-expiry-ne0.true) (lt-ltb n (expiry i) (leb-false (expiry i) n u.if-expiry-number.false-raw)) | else-expiry-ne0-via-else-expiry-ne0 u ↦ rw (eq-eqb (expiry i) 0 u.if-expiry-ne0.false) ]) ],
     )
 
-returns : tie.Need-returns invariant-loop decreases-loop
+pub returns : goal.returns
 returns c =
-    let k = c.before in
-    let a = k.before.before.args in
-    all_asked (after a.number.0) (number_at a.self.expiries) 8 k.loop.i k.loop.pass (omega arith) k.loop.invariant.1
-    ∙ all_pass a.number.0 k.before.before.requires a.self.expiries a.self.periods (up_to 8)
-
-pub all-after-spec : {M : Type 1} → statement M
-all-after-spec =
-    tie.close
-    (tie.spec invariant-loop decreases-loop loop-holds mul-expiry array-copy-out-expiry add-i loop-less loop-again returns)
+    let a = c.args in
+    all_asked (after a.number.0) (number_at a.self.expiries) 8 c.loop-i.i c.loop-i.pass (omega arith) c.loop-i.invariant.1
+    ∙ all_pass a.number.0 c.requires a.self.expiries a.self.periods (up_to 8)

@@ -15,8 +15,8 @@ use Rattle.clock.specs.View.{slot_of, view}
 use Rattle.clock.specs.Clauses.{Comes}
 use Rattle.clock.proofs.Slots.{not_armed, is_armed_lem}
 use Rattle.clock.proofs.Stages.{start_kept}
-use Rattle.clock.proofs.timers.Timers.first_expiry.Statement.{statement}
-use Rattle.clock.proofs.timers.Timers.first_expiry.Tie as tie
+use Rattle.clock.proofs.timers.Timers.first_expiry.Goals as goal
+use Rattle.clock.proofs.timers.Timers.first_expiry.Goals.{After-lost-count, Joined-then-now-start, Start, then-now-start-via-else-now-start+then-period-gt0, then-now-start-via-then-now-start}
 
 or-true : (b : Bool) → b || true ≡ true
 or-true true = refl
@@ -52,55 +52,42 @@ module _ (t : Timers) (k n : ℕ) (c : Comes t 2) (h : t.arming.start ≤ 65535)
   given-start : armed_at k start n ≡ armed_at k (start_given (view t).arming) n
   given-start = ap (λ s. armed_at k s n) (sym (start_kept t c))
 
-cast-t8 : tie.Need-overflow-cast-t8
-cast-t8 c = search rules
-
-lost-requires : tie.Need-lost-requires
-lost-requires c κs = search rules
-
-abbrev begin : tie.Joined1 → tie.Start
+abbrev begin : goal.Joined-then-now-start → goal.Start
 begin j = j.before.before.before.before.before
 
 -- the timer is armed: its start is above the tick number, or it has a period
-is-armed-now : (j : tie.Joined1) → (let a = (begin j).args in (a.now.0 < a.self.arming.start) ⊎ (0 < a.period))
-is-armed-now j = let a = (begin j).args in ⊎_elim (λ u. inl u.taken) (λ u. inr (ltb-true 0 a.period u.1.taken)) j.if1.branch
+is-armed-now : (j : goal.Joined-then-now-start) → (let a = (begin j).args in (a.now.0 < a.self.arming.start) ⊎ (0 < a.period))
+is-armed-now j = let a = (begin j).args in elim j.then-now-start.branch [ then-now-start-via-then-now-start u ↦ inl u.if-now-start.true | then-now-start-via-else-now-start+then-period-gt0 u ↦ inr (ltb-true 0 a.period u.if-period-gt0.true-raw) ]
 
 -- both have two bytes
-short : (c : tie.After-lost) → (let a = (begin c.before).args in (a.self.arming.start ≤ 65535) × (a.period ≤ 65535))
+short : (c : goal.After-lost-count) → (let a = (begin c.before).args in (a.self.arming.start ≤ 65535) × (a.period ≤ 65535))
 short c = (omega arith, omega arith)
 
-soon : (c : tie.After-lost) → (let a = (begin c.before).args in a.self.arming.start + c.lost.result * a.period ≤ a.now.0 + 65535)
+soon : (c : goal.After-lost-count) → (let a = (begin c.before).args in a.self.arming.start + c.lost-count.result * a.period ≤ a.now.0 + 65535)
 soon c =
-    let j = c.before in
-    let s = begin j in
+    let s = begin c.before in
     let a = s.args in
-    sum-soon a.self a.now.0 a.period s.pre.0 (short c).0 (short c).1 c.lost.result c.lost.ensures (is-armed-now j)
+    sum-soon a.self a.now.0 a.period s.requires.0 (short c).0 (short c).1 c.lost-count.result c.lost-count.ensures (is-armed-now c.before)
 
-mul-t12 : tie.Need-overflow-mul-t12
-mul-t12 c = omega (arith, (begin c.before).requires.1, soon c)
+pub overflow_mul-count : goal.overflow_mul-count
+overflow_mul-count c = omega (arith, (begin (goal.at.overflow_mul-count c).Joined-then-now-start).requires.1, soon (goal.at.overflow_mul-count c).After-lost-count)
 
-plus-requires : tie.Need-plus-requires
-plus-requires c κs = omega (arith, (begin c.before).requires.1, soon c)
+pub plus-expiry-requires : goal.plus-expiry-requires
+plus-expiry-requires c = omega (arith, (begin (goal.at.plus-expiry-requires c).Joined-then-now-start).requires.1, soon (goal.at.plus-expiry-requires c).After-lost-count)
 
-returns : tie.Need-returns
-returns c =
-    let l = c.before in
-    let j = l.before in
-    let s = begin j in
+pub returns-then-now-start : goal.returns-then-now-start
+returns-then-now-start c =
+    let s = begin (goal.at.returns-then-now-start c).Joined-then-now-start in
     let a = s.args in
-    let h = (short l).0 in
-    let n = (short l).1 in
-    armed-slot a.self a.now.0 a.period s.pre.0 h n l.lost.result l.lost.ensures (is-armed-now j) c.plus.result.0 c.plus.ensures
-    ∙ given-start a.self a.now.0 a.period s.pre.0 h n
-
-returns-2 : tie.Need-returns-2
-returns-2 c =
-    let s = c.before.before.before.before.before.before in
-    let a = s.args in
-    let h : a.self.arming.start ≤ 65535 = omega arith in
-    let n : a.period ≤ 65535 = omega arith in
-    late_slot a.self a.now.0 a.period s.requires.0 h n 0 refl c.before.if1.false (ltb-false 0 a.period c.if2.false)
+    let h = (short (goal.at.returns-then-now-start c).After-lost-count).0 in
+    let n = (short (goal.at.returns-then-now-start c).After-lost-count).1 in
+    armed-slot a.self a.now.0 a.period s.requires.0 h n c.lost-count.result c.lost-count.ensures (is-armed-now (goal.at.returns-then-now-start c).Joined-then-now-start) c.plus-expiry.result.0 c.plus-expiry.ensures
     ∙ given-start a.self a.now.0 a.period s.requires.0 h n
 
-pub first-expiry-spec : {M : Type 1} → statement M
-first-expiry-spec = tie.close (tie.spec cast-t8 lost-requires mul-t12 plus-requires returns returns-2)
+pub returns-else-period-gt0 : goal.returns-else-period-gt0
+returns-else-period-gt0 c =
+    let a = c.args in
+    let h : a.self.arming.start ≤ 65535 = omega arith in
+    let n : a.period ≤ 65535 = omega arith in
+    late_slot a.self a.now.0 a.period c.requires.0 h n 0 refl c.if-now-start.false (ltb-false 0 a.period c.if-period-gt0.false-raw)
+    ∙ given-start a.self a.now.0 a.period c.requires.0 h n

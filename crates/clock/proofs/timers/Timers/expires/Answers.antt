@@ -11,14 +11,8 @@ use Rattle.model.specs.Timers.{expires_at}
 use Rattle.model.proofs.Tests.{equal?}
 use Rattle.clock.specs.View.{number_at, slot_of}
 use Rattle.clock.proofs.Slots.{slot_at, not_armed, is_armed_lem}
-use Rattle.clock.proofs.timers.Timers.expires.Statement.{statement}
-use Rattle.clock.proofs.timers.Timers.expires.Tie as tie
-
-mul-expiry : tie.Need-overflow-mul-expiry
-mul-expiry c = search rules
-
-array-copy-out-expiry : tie.Need-array-copy-out-expiry
-array-copy-out-expiry c = search rules
+use Rattle.clock.proofs.timers.Timers.expires.Goals as goal
+use Rattle.clock.proofs.timers.Timers.expires.Goals.{Start}
 
 by_number : (e n p : ℕ) → 0 < n → eqb e n ≡ expires_at n (slot_of e p)
 by_number e n p h = go (equal? e 0)
@@ -27,12 +21,8 @@ by_number e n p h = go (equal? e 0)
     go (inl z) = ne_eqb e n (λ q. omega arith) ∙ sym (ap (expires_at n) (not_armed p z))
     go (inr d) = sym (ap (expires_at n) (is_armed_lem p d))
 
-returns : tie.Need-returns
+pub returns : goal.returns
 returns c =
-    let k = c.before.before.before.before in
-    let a = k.args in
-    by_number (number_at a.self.expiries a.timer) a.number.0 (get_or a.self.periods a.timer 0) k.requires.1
-    ∙ sym (ap (expires_at a.number.0) (slot_at a.self a.timer k.requires.0))
-
-pub expires-spec : {M : Type 1} → statement M
-expires-spec = tie.close (tie.spec mul-expiry array-copy-out-expiry returns)
+    let a = c.args in
+    by_number (number_at a.self.expiries a.timer) a.number.0 (get_or a.self.periods a.timer 0) c.requires.1
+    ∙ sym (ap (expires_at a.number.0) (slot_at a.self a.timer c.requires.0))

@@ -1,0 +1,42 @@
+-- `Timers::moved_on_lem` meets its contract: after i turns the timers before i have moved on, and the others are as they were.
+use mathlib.Core.Path.{◌≡◌, refl, ap, sym, ◌∙◌, subst}
+use mathlib.Core.Logic.{◌⊎◌, inl, inr, ◌≢◌, ⊎_elim}
+use mathlib.Core.List.{List}
+use mathlib.Core.Option.{Option}
+use Prim.Native.Nat.{ℕ, ◌+◌, ◌-◌, ◌≤◌, ◌<◌}
+use native.Mathlib.Omega.{arith}
+use borrow.Author.Rules.{rules}
+use borrow.Author.Tests.{eq-eqb, ne_eqb}
+use lib.ListN.{length, get_or, set, length-set}
+use Rattle.model.specs.Timers.{Timer, timer, again, moved_on, move_on}
+use Rattle.model.proofs.Tests.{equal?}
+use Rattle.model.proofs.Loops.{listed_alike}
+use Rattle.clock.specs.declared.time.Tick.{Tick}
+use Rattle.clock.specs.declared.timers.Timers.{Timers}
+use Rattle.clock.specs.View.{number_at, slot_of, slot_in, view}
+use Rattle.clock.proofs.Sized.{expiries_size}
+use Rattle.clock.proofs.Slots.{slots_of, not_armed, is_armed_lem, number_same, number_other}
+use Rattle.clock.proofs.timers.Timers.moved_on.Invariants.{MovedTo, none-moved, all_moved, moves-on, stays_on}
+use Rattle.clock.proofs.timers.Timers.moved_on.Goals as goal
+use Rattle.clock.proofs.timers.Timers.moved_on.Goals.{At-loop-i, Start, else-expiry-number, then-expiry-number}
+
+pub loop-i-init : goal.loop-i-init
+loop-i-init c = let a = c.args in (omega arith, none-moved a.self a.number.0)
+
+pub loop-i-preserved : goal.loop-i-preserved
+loop-i-preserved c =
+    let t = c.args.self in
+    let n = c.args.number.0 in
+    let i = c.loop-i.i in
+    let l = c.loop-i.expiries in
+    let q = c.loop-i.invariant.1 in
+    let h : i < 8 = c.loop-i-test.true in (
+      omega (arith, h),
+      elim c.if-expiry-number.branch [ then-expiry-number w ↦ subst (MovedTo t n (i + 1)) (sym w.expiries-is) (moves-on t n i l q w.again.result (omega (arith, h, q.sized, expiries_size t c.well_formed.0)) c.requires.0 w.if-expiry-number.true w.again.ensures) | else-expiry-number w ↦ subst (MovedTo t n (i + 1)) (sym w.expiries-is) (stays_on t n i l q w.if-expiry-number.false) ],
+    )
+
+pub returns : goal.returns
+returns c =
+    let a = c.args in
+    ap (λ (l : List (Option Timer)). record { slots = l; arming = (view a.self).arming })
+    (all_moved a.self a.number.0 c.loop-i.expiries (omega arith) c.loop-i.invariant.1)
