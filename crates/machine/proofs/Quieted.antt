@@ -49,6 +49,7 @@ unknown_quiet m = record { sleepers' = λ t n h e. omega arith; timers' = λ i t
 
 -- the soonest is at most the tick number that any of them waits for
 soonest_least : (wakes : List Tick) (delays : List ℕ) {t : ℕ} → Mem t delays → soonest wakes delays ≤ number_at wakes t
+soonest_least wakes [] {t = t} x' = elim x' [ ]
 soonest_least wakes (u ∷ l) {t} (here e) = rw e (omega arith)
 soonest_least wakes (u ∷ l) (there i) = omega (arith, soonest_least wakes l i)
 

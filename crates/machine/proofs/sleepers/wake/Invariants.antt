@@ -1,0 +1,22 @@
+-- `wake` meets its contract: what is done for the sleepers seen so far, and what is left to do, is what is done for all.
+use mathlib.Core.Path.{◌≡◌, ap, subst}
+use mathlib.Core.List.{List, [], ◌∷◌, ◌++◌}
+use Prim.Native.Nat.{ℕ, ◌+◌, ◌-◌, ◌/◌, ◌%◌, ◌≤◌}
+use native.Mathlib.Omega.{arith}
+use borrow.Author.Rules.{rules}
+use borrow.Author.Tests.{eq-eqb, ne_eqb}
+use lib.ListN.{length, length-append}
+use Rattle.lists.specs.declared.queue.Queue.{Queue}
+use Rattle.lists.specs.Words.{nibbles}
+use Rattle.lists.specs.Lists.{queued}
+use Rattle.lists.proofs.Laws.{first, ended, length-queued}
+use Rattle.clock.specs.View.{number_at}
+use Rattle.machine.proofs.Woken.{Waking, waking_begin, waking_done, wakes_up, sleeps_on}
+use Rattle.machine.proofs.sleepers.wake.Given as goal
+
+abbrev pub invariant-loop-left : goal.invariant-loop-left
+invariant-loop-left l =
+    (l.line.count + l.left ≤ 16) × (l.asleep.count + l.left ≤ 16) × (l.woken.count + l.left ≤ 16) × Waking l.wakes l.number.0 (nibbles l.initial.left l.initial.rest) (nibbles l.left l.rest) l.initial.states l.initial.line l.states l.line l.asleep l.woken
+
+abbrev pub decreases-loop-left : goal.decreases-loop-left
+decreases-loop-left l = l.left
