@@ -1,7 +1,7 @@
 -- Bounds that admit just the operands that fit: the shapes that they have, and a table of them.
 use mathlib.Core.Path.{◌≡◌, sym, subst, ◌∙◌}
 use mathlib.Core.Logic.{◌⊎◌, inl, inr, ◌≢◌}
-use mathlib.Core.Bool.{Bool, true, false, not, cond, ◌||◌, and_true, or-false}
+use mathlib.Core.Bool.{Bool, true, false, not, cond, ◌||◌, and-true, or-false}
 use mathlib.Core.List.{List}
 use Prim.Native.Nat.{ℕ, ◌+◌, ◌≤◌, ◌<◌, min}
 use native.Mathlib.Omega.{arith}
@@ -39,7 +39,7 @@ pub none_fits : Exact (below 0) (λ n. false)
 none_fits n h = below_count 0 n h ∙ le-ltb n 0 (omega arith)
 
 pub from_one : Exact (record { end = 65536; low = 1; nobody = false }) (between 1 65535)
-from_one n h = rw (lt-ltb n 65536 h, le-leb n 65535 (omega arith), and_true (leb 1 n))
+from_one n h = rw (lt-ltb n 65536 h, le-leb n 65535 (omega arith), and-true (leb 1 n))
 
 -- every operand of two bytes
 pub any_word : Exact (below 65536) (λ n. leb n 65535)

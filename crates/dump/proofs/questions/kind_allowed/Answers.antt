@@ -3,10 +3,7 @@ use mathlib.Core.Path.{◌≡◌, refl}
 use mathlib.Core.Bool.{Bool, true, false, not, cond}
 use native.Mathlib.Omega.{arith}
 use Rattle.dump.proofs.Ranges.{inside, beneath, beyond}
-use Rattle.dump.proofs.questions.kind_allowed.Statement.{statement}
-use Rattle.dump.proofs.questions.kind_allowed.Tie as tie
-
--- a call is allowed either way, a report only where a dump is read, and anything else neither way
+use Rattle.dump.proofs.questions.kind_allowed.Goals as goal
 
 allowed : (b : Bool) → true ≡ cond b true true
 allowed true = refl
@@ -20,30 +17,27 @@ forbidden : (b : Bool) → false ≡ cond b false false
 forbidden true = refl
 forbidden false = refl
 
-returns : tie.Need-returns
-returns c =
-    let a = c.before.before.args in
+pub returns-in-1-to-11 : goal.returns-in-1-to-11
+returns-in-1-to-11 c =
+    let a = c.args in
     rw (inside 1 11 a.kind (omega arith) (omega arith)) (allowed a.list)
 
-returns-2 : tie.Need-returns-2
-returns-2 c =
-    let a = c.before.before.before.before.args in
+pub returns-in-16-to-22 : goal.returns-in-16-to-22
+returns-in-16-to-22 c =
+    let a = c.args in
     rw (beyond 1 11 a.kind (omega arith) (omega arith), inside 16 22 a.kind (omega arith) (omega arith)) (in-a-dump a.list)
 
-returns-3 : tie.Need-returns-3
-returns-3 c =
-    let a = c.before.args in
+pub returns-in_default : goal.returns-in_default
+returns-in_default c =
+    let a = c.args in
     rw (beneath 1 11 a.kind (omega arith), beneath 16 22 a.kind (omega arith)) (forbidden a.list)
 
-returns-4 : tie.Need-returns-4
-returns-4 c =
-    let a = c.before.before.before.args in
+pub returns-in_default-2 : goal.returns-in_default-2
+returns-in_default-2 c =
+    let a = c.args in
     rw (beyond 1 11 a.kind (omega arith) (omega arith), beneath 16 22 a.kind (omega arith)) (forbidden a.list)
 
-returns-5 : tie.Need-returns-5
-returns-5 c =
-    let a = c.before.before.before.before.args in
+pub returns-in_default-3 : goal.returns-in_default-3
+returns-in_default-3 c =
+    let a = c.args in
     rw (beyond 1 11 a.kind (omega arith) (omega arith), beyond 16 22 a.kind (omega arith) (omega arith)) (forbidden a.list)
-
-pub kind-allowed-spec : {M : Type 1} → statement M
-kind-allowed-spec = tie.close (tie.spec returns returns-2 returns-3 returns-4 returns-5)

@@ -1,0 +1,68 @@
+-- `refusal` meets its contract: the questions are asked in their order, 7 and 8 at once first, and where one of them has the answer No, 7 alone.
+use mathlib.Core.Path.{◌≡◌, ap, sym, ◌∙◌}
+use mathlib.Core.Bool.{Bool, true, false, ◌&&◌}
+use borrow.Author.Rules.{rules}
+use borrow.Author.Tests.{not-true, not-false}
+use Rattle.model.proofs.Tests.{is_true, from_true, and_left, and_right}
+use Rattle.dump.specs.Questions.{has_count, has_length, has_kinds, has_operands, questions, refusal, Whole}
+use Rattle.dump.proofs.Answers.{has_two, whole}
+use Rattle.dump.proofs.questions.refusal.Goals as goal
+use Rattle.dump.proofs.questions.refusal.Goals.{Else-not-has_count, Else-not-has_kinds, Else-not-has_length, Then-has_records}
+
+count : (c : goal.Else-not-has_count) → has_count c.args.bytes.now ≡ true
+count c = sym c.has_count.ensures ∙ not-false c.has_count.result c.if-not-has_count.false-raw
+
+size : (c : goal.Else-not-has_length) → has_length c.args.bytes.now ≡ true
+size c = sym c.has_length.ensures ∙ not-false c.has_length.result c.if-not-has_length.false-raw
+
+sized : (c : goal.Else-not-has_length) → Whole c.args.bytes.now
+sized c = whole _ (from_true _ ((let it : has_count c.args.bytes.now ≡ true = sym c.has_count.ensures ∙ not-false c.has_count.result c.if-not-has_count.false-raw in it))) (from_true _ (size c))
+
+abbrev K : goal.Else-not-has_length → Bool
+K c = let a = c.args in has_kinds a.list a.bytes.now
+
+abbrev O : goal.Else-not-has_length → Bool
+O c = let a = c.args in has_operands a.threads a.sections a.bytes.now
+
+both_yes : (c : goal.Then-has_records) → (((let a = c.args in has_kinds a.list a.bytes.now) ≡ true) × ((let a = c.args in has_operands a.threads a.sections a.bytes.now) ≡ true))
+both_yes c =
+    let t = from_true ((let a = c.args in has_kinds a.list a.bytes.now) && (let a = c.args in has_operands a.threads a.sections a.bytes.now)) (sym c.has_records.ensures ∙ c.if-has_records.true) in
+    (is_true ((let a = c.args in has_kinds a.list a.bytes.now)) (and_left ((let a = c.args in has_kinds a.list a.bytes.now)) ((let a = c.args in has_operands a.threads a.sections a.bytes.now)) t), is_true ((let a = c.args in has_operands a.threads a.sections a.bytes.now)) (and_right ((let a = c.args in has_kinds a.list a.bytes.now)) ((let a = c.args in has_operands a.threads a.sections a.bytes.now)) t))
+
+kinds : (c : goal.Else-not-has_kinds) → (let a = c.args in has_kinds a.list a.bytes.now) ≡ true
+kinds c = sym c.has_kinds.ensures ∙ not-false c.has_kinds.result c.if-not-has_kinds.false-raw
+
+-- with every kind allowed, it is an operand that is not
+operands-no : (c : goal.Else-not-has_kinds) → (let a = c.args in has_operands a.threads a.sections a.bytes.now) ≡ false
+operands-no c =
+    sym (ap (λ b. b && (let a = c.args in has_operands a.threads a.sections a.bytes.now)) (kinds c)) ∙ sym c.has_records.ensures ∙ c.if-has_records.false
+
+pub returns-then-not-has_count : goal.returns-then-not-has_count
+unfolding refusal questions
+returns-then-not-has_count c = rw (← c.has_count.ensures, not-true c.has_count.result c.if-not-has_count.true-raw)
+
+pub has_length-requires : goal.has_length-requires
+has_length-requires c = has_two c.args.bytes.now (from_true _ (count (goal.at.has_length-requires c).Else-not-has_count))
+
+pub returns-then-not-has_length : goal.returns-then-not-has_length
+unfolding refusal questions
+returns-then-not-has_length c = rw (count (goal.at.returns-then-not-has_length c).Else-not-has_count, ← c.has_length.ensures, not-true c.has_length.result c.if-not-has_length.true-raw)
+
+pub has_records-requires : goal.has_records-requires
+has_records-requires c = sized (goal.at.has_records-requires c).Else-not-has_length
+
+pub returns-then-has_records : goal.returns-then-has_records
+unfolding refusal questions
+returns-then-has_records c = rw (count (goal.at.returns-then-has_records c).Else-not-has_count, size (goal.at.returns-then-has_records c).Else-not-has_length, (both_yes (goal.at.returns-then-has_records c).Then-has_records).0, (both_yes (goal.at.returns-then-has_records c).Then-has_records).1)
+
+pub has_kinds-requires : goal.has_kinds-requires
+has_kinds-requires c = sized (goal.at.has_kinds-requires c).Else-not-has_length
+
+pub returns-then-not-has_kinds : goal.returns-then-not-has_kinds
+unfolding refusal questions
+returns-then-not-has_kinds c =
+    rw (count (goal.at.returns-then-not-has_kinds c).Else-not-has_count, size (goal.at.returns-then-not-has_kinds c).Else-not-has_length, ← c.has_kinds.ensures, not-true c.has_kinds.result c.if-not-has_kinds.true-raw)
+
+pub returns : goal.returns
+unfolding refusal questions
+returns c = rw (count (goal.at.returns c).Else-not-has_count, size (goal.at.returns c).Else-not-has_length, kinds (goal.at.returns c).Else-not-has_kinds, operands-no (goal.at.returns c).Else-not-has_kinds)
