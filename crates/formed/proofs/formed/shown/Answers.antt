@@ -8,22 +8,18 @@ use Rattle.machine.specs.View.{plan_of, idle}
 use Rattle.machine.specs.Clauses.{Chooses}
 use Rattle.machine.proofs.Laws.{asks_chosen}
 use Rattle.formed.proofs.Outside.{is_reported}
-use Rattle.formed.proofs.formed.shown.Statement.{statement}
-use Rattle.formed.proofs.formed.shown.Tie as tie
+use Rattle.formed.proofs.formed.shown.Goals as goal
+use Rattle.formed.proofs.formed.shown.Goals.{Start}
 
-chooses : (s : tie.Start) → Chooses s.args.m
+chooses : (s : goal.Start) → Chooses s.args.m
 chooses s = asks_chosen s.args.m s.requires.0 s.requires.1
 
-chosen-requires : tie.Need-chosen-requires
-chosen-requires c κs = chooses c
+pub chosen-requires : goal.chosen-requires
+chosen-requires c = chooses (goal.at.chosen-requires c).Start
 
-returns : tie.Need-returns
+pub returns : goal.returns
 returns c =
-    let s = c.before.before in
-    let m = s.args.m in
-    let l = (chooses s).listed in
-    ap (λ n. eqb n m.reported) c.before.chosen.ensures
+    let m = c.args.m in
+    let l = (chooses (goal.at.returns c).Start).listed in
+    ap (λ n. eqb n m.reported) c.chosen.ensures
     ∙ is_reported (chosen (plan_of m) (idle m)) m.reported (λ t e. omega (arith, l.known t (chosen_is (plan_of m) (idle m) t e).0, l.threads'))
-
-pub shown-spec : {M : Type 1} → statement M
-shown-spec = tie.close (tie.spec chosen-requires returns)

@@ -1,0 +1,62 @@
+-- `names` meets its contract: a loop that asks whether the table, which counts the list, has every thread as often as its condition says.
+use mathlib.Core.Path.{◌≡◌, ap, sym, ◌∙◌}
+use mathlib.Core.Bool.{Bool, true, false, cond, ◌&&◌}
+use mathlib.Core.List.{List, map, map-id}
+use Prim.Native.Nat.{ℕ, ◌-◌, ◌≤◌, ◌<◌}
+use native.Mathlib.Omega.{arith}
+use borrow.Author.Rules.{rules}
+use borrow.Author.Tests.{eq-eqb, ne_eqb}
+use lib.Dec.{eqb, leb}
+use Rattle.model.specs.Searches.{all, up_to}
+use Rattle.model.specs.Formed.{times}
+use Rattle.model.proofs.Loops.{AllLeft, all_begin, passed, failed, all_passed, listed}
+use Rattle.lists.specs.Words.{nibble, entry_of}
+use Rattle.lists.specs.Lists.{queued}
+use Rattle.formed.specs.Clauses.{names_by, names_those}
+use Rattle.formed.proofs.standing.names.Invariants.{names_in, says}
+use Rattle.formed.proofs.standing.names.Goals as goal
+use Rattle.formed.proofs.standing.names.Goals.{After-named, At-loop-t}
+
+pub loop-t-init : goal.loop-t-init
+loop-t-init c = (omega arith, λ f e. all_begin f (λ u. u) c.args.threads)
+
+-- the table, as it stands at the head of the loop
+module _ (k : goal.At-loop-t) where
+  abbrev found : List ℕ
+  found = k.tally.new.found
+
+-- the naming in the list is such a test
+answers : (k : goal.At-loop-t) (b : Bool)
+    → let a = k.args in
+    ((f : ℕ → Bool) → ((u : ℕ) → u < a.threads → names_in (found k) a.least a.most (nibble a.states u) u ≡ f u) → b ≡ all f (map (λ u. u) (up_to a.threads)))
+    → b ≡ names_those a.threads a.states (queued a.list) a.least a.most
+answers k b g =
+    let a = k.args in
+    let f : ℕ → Bool = λ t. names_by (queued a.list) a.least a.most (nibble a.states t) t in
+    g f (λ u h. says (queued a.list) (found k) k.tally.ensures a.least a.most (nibble a.states u) u (omega (arith, k.requires.0))) ∙ ap (all f) (map-id (up_to a.threads))
+
+-- what the table says of the thread whose turn it is
+told : (c : goal.After-named)
+    → let a = c.args in
+    names_in (found c.before.before.before) a.least a.most (nibble a.states c.loop-t.t) c.loop-t.t ≡ eqb (entry_of (found c.before.before.before) c.loop-t.t) c.named.result
+told c = rw (← c.nibble_at-state.ensures, ← c.named.ensures)
+
+pub returns-then-found-t : goal.returns-then-found-t
+returns-then-found-t c =
+    let a = c.args in
+    answers (goal.at.returns-then-found-t c).At-loop-t false (λ f e.
+    failed f (λ u. u) a.threads c.loop-t.t (omega arith) (c.loop-t.invariant.1 f e)
+    (sym (e c.loop-t.t (omega arith)) ∙ told (goal.at.returns-then-found-t c).After-named ∙ ne_eqb (entry_of (found (goal.at.returns-then-found-t c).At-loop-t) c.loop-t.t) c.named.result c.if-found-t.true))
+
+pub loop-t-preserved : goal.loop-t-preserved
+loop-t-preserved c =
+    let a = c.args in (
+      omega arith,
+      λ f e.
+          passed f (λ u. u) a.threads c.loop-t.t (omega arith) (c.loop-t.invariant.1 f e)
+          (sym (e c.loop-t.t (omega arith)) ∙ told (goal.at.loop-t-preserved c).After-named ∙ eq-eqb (entry_of (found (goal.at.loop-t-preserved c).At-loop-t) c.loop-t.t) c.named.result c.if-found-t.false),
+    )
+
+pub returns : goal.returns
+returns c =
+    answers (goal.at.returns c).At-loop-t true (λ f e. all_passed f (λ u. u) c.args.threads c.loop-t.t (omega arith) (c.loop-t.invariant.1 f e))
