@@ -30,6 +30,7 @@ use Rattle.monitor.proofs.Passed.{unrefused_judged}
 -- lists made of a list are equal exactly where what is made of each member is
 module _ {A B : Type 0} (f g : A → B) where
   made_at : (l : List A) → map f l ≡ map g l → {a : A} → Mem a l → f a ≡ g a
+  made_at [] e {a = a} x'' = elim x'' [ ]
   made_at (b ∷ l) e {a} (here q) = rw q (cc)
   made_at (b ∷ l) e {a} (there m) = made_at l (cc) m
 
