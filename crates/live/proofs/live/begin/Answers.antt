@@ -17,8 +17,8 @@ use Rattle.machine.specs.declared.state.State.{State}
 use Rattle.machine.specs.Clauses.{Fresh}
 use Rattle.live.specs.Watching.{fresh, no_plan, plan_unless, begin}
 use Rattle.live.specs.Clauses.{seen}
-use Rattle.live.proofs.live.begin.Statement.{statement}
-use Rattle.live.proofs.live.begin.Tie as tie
+use Rattle.live.proofs.live.begin.Goals as goal
+use Rattle.live.proofs.live.begin.Goals.{After-refusal-q, else-q-eq0, then-q-eq0}
 
 -- a state at its start is what the model makes of its plan
 made : (s : State) (p : Plan) → Fresh s p → {q : model.Plan} → view p ≡ q → seen (record { state = s; rule = 0 }) ≡ fresh q
@@ -29,8 +29,6 @@ made s p f e = (λ i. record { plan = view (f.plan' i); state = f.seen i; top = 
     nothing_held : top_of s.machine.holds.top ≡ record { owner = none; ceiling = 0 }
     nothing_held = fits_walk (view s.machine.plan) (held s.machine.holds) (top_of s.machine.holds.top) f.keeps ∙ ap (λ (st : state.State). walk (view s.machine.plan) st.holds) f.seen
 
--- the plan of bytes that nothing refuses is carried; where a question refuses them, none is
-
 passed : (o : Option ℕ) (p : model.Plan) → o ≡ none → p ≡ plan_unless o p
 passed o p e = rw e
 
@@ -38,29 +36,16 @@ refused : (o : Option ℕ) (p : model.Plan) → number o ≢ 0 → no_plan ≡ p
 refused none p d = absurd (d refl)
 refused (some n) p d = refl
 
-refusal-requires : tie.Need-refusal-requires
-refusal-requires c κs = search rules
+pub read-p-requires : goal.read-p-requires
+read-p-requires c = refusal_zero _ (sym c.refusal-q.ensures ∙ c.if-q-eq0.true)
 
-read-requires : tie.Need-read-requires
-read-requires c κs = refusal_zero _ (sym c.before.refusal.ensures ∙ c.if1.true)
-
-fresh-requires : tie.Need-fresh-requires
-fresh-requires c κs = search rules
-
-returns : tie.Need-returns
+pub returns : goal.returns
 unfolding begin
 returns c =
-    let k = c.before.before in
-    let bytes = k.before.before.args.plan.now in
+    let bytes = c.args.plan.now in
     record {
-      answer = k.refusal.ensures;
+      answer = c.refusal-q.ensures;
       leaves =
-          made c.fresh.result c.before.if1.p c.fresh.ensures
-          (⊎_elim
-          (λ w. ap view w.2 ∙ w.1.ensures.seen ∙ passed (refusal bytes) (plan_of bytes) (refusal_zero bytes (sym k.refusal.ensures ∙ w.0.taken)))
-          (λ w. ap view w.1 ∙ refused (refusal bytes) (plan_of bytes) (λ e. w.0.left (k.refusal.ensures ∙ e)))
-          c.before.if1.branch);
+          made c.fresh.result c.if-q-eq0.p c.fresh.ensures
+          (elim c.if-q-eq0.branch [ then-q-eq0 w ↦ ap view w.p-is ∙ w.read-p.ensures.seen ∙ passed (refusal bytes) (plan_of bytes) (refusal_zero bytes (sym c.refusal-q.ensures ∙ w.if-q-eq0.true)) | else-q-eq0 w ↦ ap view w.p-is ∙ refused (refusal bytes) (plan_of bytes) (λ e. w.if-q-eq0.false (c.refusal-q.ensures ∙ e)) ]);
     }
-
-pub begin-spec : {M : Type 1} → statement M
-begin-spec = tie.close (tie.spec refusal-requires read-requires fresh-requires returns)
