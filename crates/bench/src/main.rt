@@ -7,7 +7,6 @@ ghost use Rattle.kernel.specs.Answers.{answer_of};
 ghost use Rattle.bench.specs.Printed.{answered, filled, to_output, to_error};
 
 use kernel::bench::{Written, bench};
-use libc::{STDERR_FILENO, STDOUT_FILENO};
 use plan::input::plan_length;
 use streams::input::read_input;
 use streams::text::one_number;
@@ -48,11 +47,12 @@ fn written(input: &[u8], out: &mut [u8], line: &mut [u8; 64]) -> Sizes
 
 // What fills the buffer is answered like the whole input (proofs/Cut.antt), and every dump fits the output (proofs/Room.antt). There is no
 // exit status to tell a failure by. Of dump and line one is empty, and of an empty one nothing is written.
-fn main() {
+fn main(rt: HostRuntime) {
+    let mut stdin = rt.stdin();
     let mut input = io::large_buffer();
-    let got = read_input(&mut input);
+    let got = read_input(&mut stdin, &mut input);
     if got.failed {
-        io::write_all(STDERR_FILENO, b"bench: cannot read standard input\n");
+        io::write_all(STANDARD_ERROR, b"bench: cannot read standard input\n");
         return;
     }
     let n = got.size;
@@ -61,8 +61,8 @@ fn main() {
     let sizes = written(&input[..n], &mut out, &mut line);
     let dump = sizes.dump;
     let text = sizes.line;
-    if !io::write_all(STDOUT_FILENO, &out[..dump]) {
-        io::write_all(STDERR_FILENO, b"bench: cannot write standard output\n");
+    if !io::write_all(STANDARD_OUTPUT, &out[..dump]) {
+        io::write_all(STANDARD_ERROR, b"bench: cannot write standard output\n");
     }
-    io::write_all(STDERR_FILENO, &line[..text]);
+    io::write_all(STANDARD_ERROR, &line[..text]);
 }

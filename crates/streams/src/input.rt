@@ -1,12 +1,12 @@
 // Standard input, as far as a buffer holds it, and whether it could be read.
-ghost use Rattle.std.specs.Prelude.{◌≡◌, true};
+ghost use Rattle.std.specs.Prelude.{◌≡◌, ◌≤ℤ◌, true, pos, length};
 ghost use Rattle.io.specs.Counts.{IsPrefixLen};
 ghost use Rattle.streams.specs.Input.{meaning_of};
 
-use libc::STDIN_FILENO;
+use std::io::{Read, Stdin};
 
 // What a call of `read` did: it failed, found the end of the input, or moved so many bytes.
-#[derive(Drop)]
+#[derive(Clone, Copy)]
 enum Outcome {
     Failed,
     Ended,
@@ -14,7 +14,7 @@ enum Outcome {
 }
 
 // How many bytes of the input stand at the front of the buffer; none that count where it could not be read.
-#[derive(Drop)]
+#[derive(Clone, Copy)]
 pub struct Input {
     pub size: usize,
     pub failed: bool,
@@ -33,15 +33,24 @@ fn meaning(got: isize) -> Outcome
     Outcome::Moved(got as usize)
 }
 
+// The number by which C answers a read of standard input: below 0 where it failed, and never more than there is room for.
+fn answer(stdin: &mut Stdin, piece: &mut [u8]) -> isize
+    ensures { result ≤ℤ pos (length piece.new) }
+{
+    match stdin.read(piece) {
+        Ok(n) => n as isize,
+        Err(_) => -1,
+    }
+}
+
 // Until the input ends or the buffer is full. Where a read fails, nothing is told of what was read before.
-pub fn read_input(buf: &mut [u8]) -> Input
+pub fn read_input(stdin: &mut Stdin, buf: &mut [u8]) -> Input
     ensures prefix_len { IsPrefixLen result.size buf.new }
     ensures size_value { result.failed ≡ true → result.size ≡ 0 }
 {
     let mut done = 0;
     while done < buf.len() {
-        let got = libc::read(STDIN_FILENO, &mut buf[done..]);
-        match meaning(got) {
+        match meaning(answer(stdin, &mut buf[done..])) {
             Outcome::Failed => return Input {
                 size: 0,
                 failed: true,

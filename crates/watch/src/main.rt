@@ -5,7 +5,6 @@ ghost use Rattle.io.specs.Counts.{IsPrefixLen};
 ghost use Rattle.monitor.specs.Answers.{answer_of};
 ghost use Rattle.watch.specs.Printed.{answered, line_of, printed};
 
-use libc::{STDERR_FILENO, STDOUT_FILENO};
 use monitor::check::{Verdict, check};
 use plan::input::plan_length;
 use streams::input::read_input;
@@ -40,17 +39,18 @@ fn answer_line(input: &[u8], out: &mut [u8; 64]) -> usize
 }
 
 // What fills the buffer is answered like the whole input (proofs/Cut.antt). There is no exit status to tell a failure by.
-fn main() {
+fn main(rt: HostRuntime) {
+    let mut stdin = rt.stdin();
     let mut input = io::large_buffer();
-    let got = read_input(&mut input);
+    let got = read_input(&mut stdin, &mut input);
     if got.failed {
-        io::write_all(STDERR_FILENO, b"watch: cannot read standard input\n");
+        io::write_all(STANDARD_ERROR, b"watch: cannot read standard input\n");
         return;
     }
     let n = got.size;
     let mut line = [0u8; 64];
     let size = answer_line(&input[..n], &mut line);
-    if !io::write_all(STDOUT_FILENO, &line[..size]) {
-        io::write_all(STDERR_FILENO, b"watch: cannot write standard output\n");
+    if !io::write_all(STANDARD_OUTPUT, &line[..size]) {
+        io::write_all(STANDARD_ERROR, b"watch: cannot write standard output\n");
     }
 }

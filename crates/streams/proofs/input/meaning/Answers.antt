@@ -12,8 +12,7 @@ use mir.Val.{Fits, to_z, of_z}
 use mir.Facts.{to_z-of_z}
 use Rattle.streams.specs.declared.input.Outcome.TheVariants.{Failed, Moved}
 use Rattle.streams.specs.Input.{meaning_of}
-use Rattle.streams.proofs.input.meaning.Statement.{statement}
-use Rattle.streams.proofs.input.meaning.Tie as tie
+use Rattle.streams.proofs.input.meaning.Goals as goal
 
 negative : (z : ℤ) → lt_z z (pos 0) ≡ true → Failed ≡ meaning_of z
 negative (pos n) e = absurd (omega (arith, ltb-true n 0 e))
@@ -28,21 +27,18 @@ fits (pos n) e h = (tt, record { fits = omega arith })
 fits (negsuc k) e h = let z : ◌≡◌ {A = ℕ} 0 1 = cc in absurd (omega arith)
 
 -- the bits of a number that fits are read back as the number
-returns : tie.Need-returns
-returns c = let e = to_z-of_z c.before.ranges.got in negative c.before.args.got (ap (λ z. lt_z z (pos 0)) (sym e) ∙ c.if1.true)
+pub returns-then-got-lt0 : goal.returns-then-got-lt0
+returns-then-got-lt0 c = let e = to_z-of_z c.ranges.got in negative c.args.got (ap (λ z. lt_z z (pos 0)) (sym e) ∙ c.if-got-lt0.true)
 
-returns-2 : tie.Need-returns-2
-returns-2 c = let e = to_z-of_z c.before.before.ranges.got in ap meaning_of (sym (ap (to_z w64) c.if2.true) ∙ e)
+pub returns-then-got-eq0 : goal.returns-then-got-eq0
+returns-then-got-eq0 c = let e = to_z-of_z c.ranges.got in ap meaning_of (sym (ap (to_z w64) c.if-got-eq0.true) ∙ e)
 
-cast-t3 : tie.Need-overflow-cast-t3
-cast-t3 c =
-    let e = to_z-of_z c.before.before.ranges.got in
-    subst (λ (z : ℤ). T (non_neg z) × Fits w64 (nat_abs z)) (sym e) (fits c.before.before.args.got (ap (λ z. lt_z z (pos 0)) (sym e) ∙ c.before.if1.false) c.before.before.ranges.got.sfits)
+pub overflow_cast-result : goal.overflow_cast-result
+overflow_cast-result c =
+    let e = to_z-of_z c.ranges.got in
+    subst (λ (z : ℤ). T (non_neg z) × Fits w64 (nat_abs z)) (sym e) (fits c.args.got (ap (λ z. lt_z z (pos 0)) (sym e) ∙ c.if-got-lt0.false) c.ranges.got.sfits)
 
-returns-3 : tie.Need-returns-3
-returns-3 c =
-    let e = to_z-of_z c.before.before.ranges.got in
-    ap (λ z. Moved (nat_abs z)) e ∙ positive c.before.before.args.got (ap (λ z. lt_z z (pos 0)) (sym e) ∙ c.before.if1.false) (λ q. c.if2.false (ap (of_z w64) q))
-
-pub meaning-spec : {M : Type 1} → statement M
-meaning-spec = tie.close (tie.spec returns returns-2 cast-t3 returns-3)
+pub returns : goal.returns
+returns c =
+    let e = to_z-of_z c.ranges.got in
+    ap (λ z. Moved (nat_abs z)) e ∙ positive c.args.got (ap (λ z. lt_z z (pos 0)) (sym e) ∙ c.if-got-lt0.false) (λ q. c.if-got-eq0.false (ap (of_z w64) q))
