@@ -11,8 +11,11 @@ use plan::input::plan_length;
 use streams::input::read_input;
 use streams::text::one_number;
 
+const STANDARD_OUTPUT: i32 = 1;
+const STANDARD_ERROR: i32 = 2;
+
 // How many bytes go to standard output and to standard error.
-#[derive(Drop)]
+#[derive(Clone, Copy)]
 struct Sizes {
     dump: usize,
     line: usize,

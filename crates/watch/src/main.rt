@@ -10,6 +10,9 @@ use plan::input::plan_length;
 use streams::input::read_input;
 use streams::text::{one_number, two_numbers};
 
+const STANDARD_OUTPUT: i32 = 1;
+const STANDARD_ERROR: i32 = 2;
+
 // The plan in front, the dump behind it.
 fn answer(input: &[u8]) -> Verdict
     ensures { answer_of result ≡ answered input.now }
