@@ -1,6 +1,7 @@
 // The program bench: a plan and a call list from standard input, the dump's bytes to standard output; on a refusal nothing there, and one
 // line to standard error.
 #![tactic(auto)]
+
 ghost use Rattle.std.specs.Prelude.{◌≡◌, length, take};
 ghost use Rattle.io.specs.Counts.{IsPrefixLen};
 ghost use Rattle.kernel.specs.Answers.{answer_of};
@@ -12,6 +13,7 @@ use streams::input::read_input;
 use streams::text::one_number;
 
 const STANDARD_OUTPUT: i32 = 1;
+
 const STANDARD_ERROR: i32 = 2;
 
 // How many bytes go to standard output and to standard error.

@@ -1,5 +1,5 @@
 -- The lengths of the arrays of the timers, from what owning them tells.
-use mathlib.Core.Path.{◌≡◌, sym, ◌∙◌}
+use mathlib.Core.Path.{◌≡◌}
 use mathlib.Core.List.{◌∷◌, []}
 use lib.ListN.{length}
 use denote.Laws.{Is}

@@ -1,6 +1,7 @@
 // The watch and the bench kernel for programs in C and Rust; the interface folder has the header. Every function answers any bytes and any
 // watch state; a number, a state or an output that is lent keeps what it had unless the comment says what is set.
 #![tactic(auto)]
+
 ghost use Rattle.std.specs.Prelude.{◌≡◌, length};
 ghost use Rattle.monitor.specs.Answers.{check};
 ghost use Rattle.kernel.specs.Answers.{answer, output};

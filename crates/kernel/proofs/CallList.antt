@@ -10,7 +10,6 @@ use lib.Dec.{T}
 use lib.ListN.{length, get_or, drop, length-map, drop_of_length-le, get_or-map}
 use lib.Seq.{drop-cons}
 use Rattle.model.specs.Searches.{all}
-use Rattle.model.specs.Plan.{threads}
 use Rattle.model.specs.Records.{Call, Tick, Record, call, report, allowed}
 use Rattle.model.specs.Bench.{calls_of}
 use Rattle.plan.specs.View as plans

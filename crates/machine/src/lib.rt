@@ -1,5 +1,6 @@
 // The machine that says what a module's kernel does, with all the reports that it owes. It knows nothing of dumps.
 #![tactic(auto)]
+
 pub mod slots; // slots.rt: the conditions of the threads
 pub mod sleepers; // sleepers.rt: who wakes, and when the next one does
 mod rules; // rules.rt: the questions asked of a record

@@ -31,8 +31,8 @@ is : {old r x : Reporting} {z : records.Record} → r ≡ x → Answers x old z 
 is {old} {z = z} q a = subst (λ r. Answers r old z) (sym q) a
 
 module _ {s : State} {ceilings bytes : List ℕ} {from to : ℕ} (a : Walks s ceilings bytes from to)
-  {c : Reporting} {i : ℕ} (stands : Walking s.machine.plan (view s) bytes from to c i) (more : i < to)
-  {e : Entry} (read : (e.kind ≡ kind_at bytes i) × (e.operand ≡ operand_at bytes i)) where
+    {c : Reporting} {i : ℕ} (stands : Walking s.machine.plan (view s) bytes from to c i) (more : i < to)
+    {e : Entry} (read : (e.kind ≡ kind_at bytes i) × (e.operand ≡ operand_at bytes i)) where
   abbrev pub at : records.Record
   at = record_at bytes i
 

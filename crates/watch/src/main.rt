@@ -1,5 +1,6 @@
 // The program watch: a plan and a dump from standard input, one line of answer to standard output.
 #![tactic(auto)]
+
 ghost use Rattle.std.specs.Prelude.{◌≡◌, take};
 ghost use Rattle.io.specs.Counts.{IsPrefixLen};
 ghost use Rattle.monitor.specs.Answers.{answer_of};
@@ -11,6 +12,7 @@ use streams::input::read_input;
 use streams::text::{one_number, two_numbers};
 
 const STANDARD_OUTPUT: i32 = 1;
+
 const STANDARD_ERROR: i32 = 2;
 
 // The plan in front, the dump behind it.

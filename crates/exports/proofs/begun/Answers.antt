@@ -3,7 +3,6 @@ use mathlib.Core.Path.{◌≡◌, refl, sym, ◌∙◌}
 use mathlib.Core.Logic.{◌≢◌}
 use mathlib.Core.Option.{Option, none, some, some-ne-none}
 use Prim.Native.Nat.{ℕ}
-use borrow.Author.Rules.{rules}
 use Rattle.plan.specs.Bytes.{refusal, number}
 use Rattle.plan.proofs.Laws.{refusal_zero}
 use Rattle.live.specs.Watching.{Watched, watched_unless, begin}

@@ -1,6 +1,5 @@
 -- `kind_at` meets its contract: the kinds stand behind N.
 use mathlib.Core.Path.{refl}
-use borrow.Author.Rules.{rules}
 use Rattle.dump.proofs.layout.kind_at.Goals as goal
 
 pub returns : goal.returns

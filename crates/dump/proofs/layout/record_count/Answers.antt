@@ -1,5 +1,4 @@
 -- `record_count` meets its contract: N is the first word.
-use borrow.Author.Rules.{rules}
 use Rattle.dump.proofs.layout.record_count.Goals as goal
 
 pub returns : goal.returns

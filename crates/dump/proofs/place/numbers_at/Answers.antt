@@ -1,6 +1,5 @@
 -- `numbers_at` meets its contract: the kind and the operand of one record.
 use mathlib.Core.Path.{◌∙◌}
-use borrow.Author.Rules.{rules}
 use Rattle.dump.proofs.Running.{running_within, running_operand}
 use Rattle.dump.proofs.place.numbers_at.Goals as goal
 use Rattle.dump.proofs.place.numbers_at.Goals.{Start}

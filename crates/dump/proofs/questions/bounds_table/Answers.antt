@@ -1,10 +1,7 @@
 -- `bounds_table` meets its contract: a loop that stores the bounds of one kind in each turn.
-use mathlib.Core.Path.{◌≡◌, refl}
-use Prim.Native.Nat.{◌-◌, ◌≤◌}
+use mathlib.Core.Path.{refl}
 use native.Mathlib.Omega.{arith}
-use borrow.Author.Rules.{rules}
-use lib.ListN.{length, length-set}
-use Rattle.dump.specs.Operands.{Tabled}
+use lib.ListN.{length-set}
 use Rattle.dump.proofs.Operands.{tabled}
 use Rattle.dump.proofs.questions.bounds_table.Goals as goal
 use Rattle.dump.proofs.questions.bounds_table.Goals.{At-loop-k}

@@ -1,11 +1,8 @@
 -- `bounds_table` meets its contract: a loop that stores the bounds of one kind in each turn.
-use mathlib.Core.Path.{◌≡◌, refl}
+use mathlib.Core.Path.{◌≡◌}
 use Prim.Native.Nat.{◌-◌, ◌≤◌}
-use native.Mathlib.Omega.{arith}
-use borrow.Author.Rules.{rules}
-use lib.ListN.{length, length-set}
+use lib.ListN.{length}
 use Rattle.dump.specs.Operands.{Tabled}
-use Rattle.dump.proofs.Operands.{tabled}
 use Rattle.dump.proofs.questions.bounds_table.Given as goal
 
 abbrev pub invariant-loop-k : goal.invariant-loop-k

@@ -1,5 +1,4 @@
 -- `has_count` meets its contract: the length is asked before the count.
-use borrow.Author.Rules.{rules}
 use borrow.Author.Tests.{le-leb, lt-leb}
 use lib.ListN.{length}
 use Rattle.dump.proofs.questions.has_count.Goals as goal

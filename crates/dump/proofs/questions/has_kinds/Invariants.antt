@@ -1,14 +1,10 @@
 -- `has_kinds` meets its contract: a loop that asks whether all pass.
-use mathlib.Core.Path.{◌≡◌, ap, sym, ◌∙◌}
 use mathlib.Core.Bool.{Bool}
 use mathlib.Core.List.{List}
 use Prim.Native.Nat.{ℕ, ◌-◌}
-use native.Mathlib.Omega.{arith}
-use borrow.Author.Rules.{rules}
-use borrow.Author.Tests.{not-true, not-false}
 use Rattle.dump.specs.Layout.{record_count, kind_at}
 use Rattle.dump.specs.Questions.{kind_allowed}
-use Rattle.dump.proofs.Asking.{Asking, asking, passes, fails, all_pass}
+use Rattle.dump.proofs.Asking.{Asking}
 use Rattle.dump.proofs.questions.has_kinds.Given as goal
 
 -- what is asked of record i

@@ -1,6 +1,5 @@
 -- `has_length` meets its contract: the sum fits, since two bytes are below 65536.
 use native.Mathlib.Omega.{arith}
-use borrow.Author.Rules.{rules}
 use Rattle.dump.proofs.questions.has_length.Goals as goal
 
 pub overflow_mul-result : goal.overflow_mul-result

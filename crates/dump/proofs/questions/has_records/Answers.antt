@@ -3,16 +3,15 @@
 use mathlib.Core.Path.{◌≡◌, ap, ap₂, sym, ◌∙◌}
 use mathlib.Core.Bool.{Bool, ◌&&◌}
 use mathlib.Core.List.{List}
-use Prim.Native.Nat.{ℕ, ◌-◌, ◌<◌}
+use Prim.Native.Nat.{ℕ, ◌<◌}
 use native.Mathlib.Omega.{arith}
-use borrow.Author.Rules.{rules}
 use borrow.Author.Tests.{not-true, not-false}
 use Rattle.model.specs.Searches.{all, up_to}
 use Rattle.dump.specs.Layout.{record_count, kind_at, operand_at, running_place}
 use Rattle.dump.specs.Questions.{kind_allowed, operand_fits, has_kinds, has_operands}
 use Rattle.dump.specs.Operands.{record_fits}
 use Rattle.dump.proofs.Operands.{no_kind}
-use Rattle.dump.proofs.Asking.{Asking, asking, passes, fails, all_pass, both}
+use Rattle.dump.proofs.Asking.{asking, passes, fails, all_pass, both}
 use Rattle.dump.proofs.Running.{running_place_lem, running_next}
 use Rattle.dump.proofs.questions.has_records.Invariants.{asked}
 use Rattle.dump.proofs.questions.has_records.Goals as goal
@@ -76,11 +75,10 @@ overflow_add-running c =
     record { fits = omega (arith, c.loop-i.invariant.1, running_place_lem (count (goal.at.overflow_add-running c).At-loop-i) c.loop-i.i, within (goal.at.overflow_add-running c).After-entry_at-e, c.requires.count) }
 
 pub loop-i-preserved : goal.loop-i-preserved
-loop-i-preserved c =
-    (
-      passes (asked_of (goal.at.loop-i-preserved c).At-loop-i) (count (goal.at.loop-i-preserved c).At-loop-i) c.loop-i.i c.loop-i.invariant.0 (within (goal.at.loop-i-preserved c).After-entry_at-e) (sym (answered (goal.at.loop-i-preserved c).After-admits) ∙ not-false c.admits.result c.if-not-admits.false-raw),
-      running_next (count (goal.at.loop-i-preserved c).At-loop-i) c.loop-i.i c.loop-i.invariant.1,
-    )
+loop-i-preserved c = (
+  passes (asked_of (goal.at.loop-i-preserved c).At-loop-i) (count (goal.at.loop-i-preserved c).At-loop-i) c.loop-i.i c.loop-i.invariant.0 (within (goal.at.loop-i-preserved c).After-entry_at-e) (sym (answered (goal.at.loop-i-preserved c).After-admits) ∙ not-false c.admits.result c.if-not-admits.false-raw),
+  running_next (count (goal.at.loop-i-preserved c).At-loop-i) c.loop-i.i c.loop-i.invariant.1,
+)
 
 pub returns : goal.returns
 returns c =

@@ -1,19 +1,12 @@
 -- `has_records` meets its contract: a loop that asks whether all pass. The table's entry of a kind admits just the operands that pass with it, and the
 -- running place is that of the record whose turn it is.
-use mathlib.Core.Path.{◌≡◌, ap, ap₂, sym, ◌∙◌}
-use mathlib.Core.Bool.{Bool, ◌&&◌}
+use mathlib.Core.Path.{◌≡◌}
+use mathlib.Core.Bool.{Bool}
 use mathlib.Core.List.{List}
-use Prim.Native.Nat.{ℕ, ◌-◌, ◌<◌}
-use native.Mathlib.Omega.{arith}
-use borrow.Author.Rules.{rules}
-use borrow.Author.Tests.{not-true, not-false}
-use Rattle.model.specs.Searches.{all, up_to}
+use Prim.Native.Nat.{ℕ, ◌-◌}
 use Rattle.dump.specs.Layout.{record_count, kind_at, operand_at, running_place}
-use Rattle.dump.specs.Questions.{kind_allowed, operand_fits, has_kinds, has_operands}
 use Rattle.dump.specs.Operands.{record_fits}
-use Rattle.dump.proofs.Operands.{no_kind}
-use Rattle.dump.proofs.Asking.{Asking, asking, passes, fails, all_pass, both}
-use Rattle.dump.proofs.Running.{running_place_lem, running_next}
+use Rattle.dump.proofs.Asking.{Asking}
 use Rattle.dump.proofs.questions.has_records.Given as goal
 
 -- what is asked of record i

@@ -1,7 +1,6 @@
 -- `refusal` meets its contract: the questions are asked in their order, 7 and 8 at once first, and where one of them has the answer No, 7 alone.
 use mathlib.Core.Path.{◌≡◌, ap, sym, ◌∙◌}
 use mathlib.Core.Bool.{Bool, true, false, ◌&&◌}
-use borrow.Author.Rules.{rules}
 use borrow.Author.Tests.{not-true, not-false}
 use Rattle.model.proofs.Tests.{is_true, from_true, and_left, and_right}
 use Rattle.dump.specs.Questions.{has_count, has_length, has_kinds, has_operands, questions, refusal, Whole}

@@ -1,6 +1,5 @@
 -- `report_bounds` meets its contract: a timer for Expire, any count for Late; else a thread below T, and nobody for Switch alone.
 use mathlib.Core.Bool.{◌&&◌}
-use borrow.Author.Rules.{rules}
 use borrow.Author.Tests.{ne_eqb}
 use lib.Dec.{eqb}
 use Rattle.model.specs.Records.{timer_count, nobody}

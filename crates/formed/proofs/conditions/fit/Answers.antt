@@ -1,6 +1,5 @@
 -- `fit` meets its contract: where nobody waits the tick numbers decide, and else every thread is asked.
 use mathlib.Core.Path.{sym, ◌∙◌}
-use borrow.Author.Rules.{rules}
 use Rattle.formed.proofs.Calm.{calm_range}
 use Rattle.formed.proofs.conditions.fit.Goals as goal
 use Rattle.formed.proofs.conditions.fit.Goals.{Start}

@@ -1,11 +1,9 @@
 -- `conditions::in_range` meets its contract: a loop that asks whether all pass.
 use mathlib.Core.Path.{◌≡◌, sym, ◌∙◌}
-use Prim.Native.Nat.{◌-◌, ◌≤◌}
 use native.Mathlib.Omega.{arith}
-use borrow.Author.Rules.{rules}
 use borrow.Author.Tests.{not-true, not-false}
 use Rattle.model.specs.Formed.{condition_in_range}
-use Rattle.model.proofs.Loops.{AllLeft, all_begin, passed, failed, all_passed}
+use Rattle.model.proofs.Loops.{all_begin, passed, failed, all_passed}
 use Rattle.machine.specs.View.{condition_in}
 use Rattle.formed.proofs.conditions.in_range.Goals as goal
 use Rattle.formed.proofs.conditions.in_range.Goals.{After-slot_in_range, At-loop-t}

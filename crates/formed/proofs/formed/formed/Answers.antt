@@ -1,10 +1,8 @@
 -- `formed` meets its contract: what is kept is asked first where nothing is held, then the machine, then what is kept where something is; with nothing due
 -- the thread reported decides, and else the reports do.
 use mathlib.Core.Path.{◌≡◌}
-use mathlib.Core.Logic.{⊎_elim}
 use mathlib.Core.Bool.{true}
 use native.Mathlib.Omega.{arith}
-use borrow.Author.Rules.{rules}
 use Rattle.model.specs.Formed.{formed_machine}
 use Rattle.model.proofs.Tests.{from_true}
 use Rattle.plan.proofs.Laws.{valid_fits}

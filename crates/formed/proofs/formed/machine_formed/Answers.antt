@@ -1,5 +1,4 @@
 -- `machine_formed` meets its contract: the first question that has the answer No ends it, and the last one decides.
-use borrow.Author.Rules.{rules}
 use Rattle.formed.specs.Clauses.{Counted}
 use Rattle.formed.proofs.Outside.{was_no, was_yes, counts_fit, refused_plan, refused_counts, refused_lists, refused_numbers, refused_delays, refused_timers, once_decides}
 use Rattle.formed.proofs.formed.machine_formed.Goals as goal

@@ -1,7 +1,5 @@
 -- `numbers_in_range` meets its contract: the first question that has the answer No ends it, and the last one decides.
 use mathlib.Core.Path.{◌∙◌}
-use mathlib.Core.Logic.{⊎_elim}
-use borrow.Author.Rules.{rules}
 use borrow.Author.Tests.{leb-true, leb-false, lt-ltb}
 use lib.Dec.{eqb, eqb→eq}
 use Rattle.model.proofs.Tests.{from_true}

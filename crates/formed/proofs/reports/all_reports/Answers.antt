@@ -1,18 +1,7 @@
 -- `all_reports` meets its contract: whether all that are left are reports of the papers' is whether all that are due are.
-use mathlib.Core.Path.{◌≡◌, refl, ap, sym, ◌∙◌}
-use mathlib.Core.Bool.{Bool, true, false, ◌&&◌}
-use mathlib.Core.List.{List}
-use Prim.Native.Nat.{ℕ, ◌+◌, ◌-◌, ◌≤◌, ◌<◌}
+use mathlib.Core.Path.{refl, sym, ◌∙◌}
+use mathlib.Core.Bool.{true, false}
 use native.Mathlib.Omega.{arith}
-use borrow.Author.Rules.{rules}
-use lib.ListN.{drop, get_or}
-use Rattle.model.specs.Searches.{all}
-use Rattle.model.specs.Records.{report, allowed}
-use Rattle.plan.specs.declared.Plan.{Plan}
-use Rattle.plan.specs.View.{view}
-use Rattle.due.specs.declared.reports.Report.{Report}
-use Rattle.due.specs.Lists.{report_of, no_report, owed}
-use Rattle.due.proofs.Laws.{none_due, next_due}
 use Rattle.formed.proofs.Outside.{was_no, was_yes}
 use Rattle.formed.proofs.reports.all_reports.Invariants.{left, done}
 use Rattle.formed.proofs.reports.all_reports.Goals as goal

@@ -1,19 +1,7 @@
 -- `but_switch` meets its contract: those counted so far, and those left but a Switch, are all that are due but a Switch.
-use mathlib.Core.Path.{◌≡◌, ap, ◌∙◌}
-use mathlib.Core.Logic.{⊎_elim}
-use mathlib.Core.Bool.{Bool, true, false, cond}
-use mathlib.Core.List.{List, ◌∷◌}
-use Prim.Native.Nat.{ℕ, ◌+◌, ◌-◌, ◌≤◌, ◌<◌}
+use mathlib.Core.Bool.{true, false}
 use native.Mathlib.Omega.{arith}
-use borrow.Author.Rules.{rules}
 use borrow.Author.Tests.{eq-eqb, ne_eqb}
-use lib.Dec.{eqb}
-use lib.ListN.{length, drop, get_or}
-use Rattle.model.specs.Records as records
-use Rattle.model.specs.State.{without_switch}
-use Rattle.due.specs.declared.reports.Report.{Report}
-use Rattle.due.specs.Lists.{report_of, no_report, owed}
-use Rattle.due.proofs.Laws.{switch_is, none_due, next_due}
 use Rattle.formed.proofs.reports.but_switch.Invariants.{entry, turn, done}
 use Rattle.formed.proofs.reports.but_switch.Goals as goal
 use Rattle.formed.proofs.reports.but_switch.Goals.{At-loop-i, In-loop-i, else-r-ne17, then-r-ne17}

@@ -1,10 +1,8 @@
 -- `reports::formed` meets its contract: how many are due, whether each is a report of the papers', whether a Switch is last, and then the room for reports.
 use mathlib.Core.Path.{ap₂}
-use mathlib.Core.Logic.{⊎_elim}
 use mathlib.Core.Bool.{not}
 use Prim.Native.Nat.{◌+◌, ◌-◌, ◌≤◌}
 use native.Mathlib.Omega.{arith}
-use borrow.Author.Rules.{rules}
 use borrow.Author.Tests.{ltb-true, ltb-false}
 use lib.Dec.{leb}
 use lib.ListN.{drop, length-drop}

@@ -1,9 +1,8 @@
 -- `is_report` meets its contract: a Switch to nobody, an Expire of a timer, a Late, or a kind from 16 to 20 that names a thread of the plan.
 use mathlib.Core.Path.{◌≡◌, ap, sym, ◌∙◌}
-use mathlib.Core.Logic.{⊎_elim, ◌≢◌}
+use mathlib.Core.Logic.{◌≢◌}
 use mathlib.Core.Bool.{Bool, ◌&&◌}
 use native.Mathlib.Omega.{arith}
-use borrow.Author.Rules.{rules}
 use borrow.Author.Tests.{eqb-true, eqb-false, le-leb, lt-leb}
 use lib.Dec.{leb, ltb}
 use Rattle.model.specs.Records.{nobody, report, allowed}

@@ -1,16 +1,14 @@
 -- `owed_none` meets its contract: those counted so far, and those left that are armed and owed none, are all.
-use mathlib.Core.Path.{◌≡◌, ap, sym, ◌∙◌}
-use mathlib.Core.Logic.{⊎_elim}
-use mathlib.Core.Bool.{Bool, true, false, cond, not}
+use mathlib.Core.Path.{◌≡◌, ◌∙◌}
+use mathlib.Core.Bool.{Bool, true, false, cond}
 use mathlib.Core.List.{◌∷◌}
 use Prim.Native.Nat.{ℕ, ◌+◌, ◌-◌, ◌≤◌, ◌<◌}
 use native.Mathlib.Omega.{arith}
-use borrow.Author.Rules.{rules}
 use lib.ListN.{drop}
 use Rattle.model.specs.Searches.{up_to}
 use Rattle.model.specs.Records.{timer_count}
 use Rattle.model.specs.Formed.{times, owed_none}
-use Rattle.model.proofs.Loops.{left, begin, turn, done}
+use Rattle.model.proofs.Loops.{left, turn}
 use Rattle.clock.specs.declared.timers.Timers.{Timers}
 use Rattle.clock.specs.View.{view}
 use Rattle.due.specs.declared.reports.Reports.{Reports}

@@ -1,18 +1,11 @@
 -- `switch_last` meets its contract: whether a Switch among those left is last is whether it is among all that are due.
-use mathlib.Core.Path.{◌≡◌, refl, ap, ap₂, sym, ◌∙◌}
-use mathlib.Core.Bool.{Bool, true, false, not, ◌&&◌, ◌||◌}
-use mathlib.Core.List.{List}
-use Prim.Native.Nat.{ℕ, ◌+◌, ◌-◌, ◌≤◌, ◌<◌}
+use mathlib.Core.Path.{◌≡◌, refl, ap, sym, ◌∙◌}
+use mathlib.Core.Bool.{true, false}
+use Prim.Native.Nat.{◌+◌, ◌-◌, ◌<◌}
 use native.Mathlib.Omega.{arith}
-use borrow.Author.Rules.{rules}
 use borrow.Author.Tests.{eq-eqb, ne_eqb}
-use lib.ListN.{drop, get_or}
-use Rattle.model.specs.Searches.{is_empty}
-use Rattle.model.specs.Records.{is_switch}
-use Rattle.model.specs.Formed.{switch_last}
-use Rattle.due.specs.declared.reports.Report.{Report}
-use Rattle.due.specs.Lists.{report_room, report_of, no_report, owed}
-use Rattle.due.proofs.Laws.{switch_is, none_due, next_due}
+use Rattle.due.specs.Lists.{report_room}
+use Rattle.due.proofs.Laws.{switch_is}
 use Rattle.formed.proofs.reports.switch_last.Invariants.{entry, from, left, done}
 use Rattle.formed.proofs.reports.switch_last.Goals as goal
 use Rattle.formed.proofs.reports.switch_last.Goals.{At-loop-i, In-loop-i}

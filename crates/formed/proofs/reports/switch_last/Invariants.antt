@@ -4,15 +4,13 @@ use mathlib.Core.Bool.{Bool, true, false, not, ◌&&◌, ◌||◌}
 use mathlib.Core.List.{List}
 use Prim.Native.Nat.{ℕ, ◌+◌, ◌-◌, ◌≤◌, ◌<◌}
 use native.Mathlib.Omega.{arith}
-use borrow.Author.Rules.{rules}
-use borrow.Author.Tests.{eq-eqb, ne_eqb}
 use lib.ListN.{drop, get_or}
 use Rattle.model.specs.Searches.{is_empty}
 use Rattle.model.specs.Records.{is_switch}
 use Rattle.model.specs.Formed.{switch_last}
 use Rattle.due.specs.declared.reports.Report.{Report}
-use Rattle.due.specs.Lists.{report_room, report_of, no_report, owed}
-use Rattle.due.proofs.Laws.{switch_is, none_due, next_due}
+use Rattle.due.specs.Lists.{report_of, no_report, owed}
+use Rattle.due.proofs.Laws.{none_due, next_due}
 use Rattle.formed.proofs.reports.switch_last.Given as goal
 
 module _ (items : List Report) (n : ℕ) where

@@ -1,6 +1,5 @@
 -- `named` meets its contract.
 use mathlib.Core.Path.{ap, ap₂, sym}
-use mathlib.Core.Logic.{⊎_elim}
 use mathlib.Core.Bool.{cond, ◌&&◌}
 use borrow.Author.Tests.{le-leb, lt-leb}
 use lib.Dec.{leb}

@@ -1,15 +1,13 @@
 -- `names` meets its contract: a loop that asks whether the table, which counts the list, has every thread as often as its condition says.
 use mathlib.Core.Path.{◌≡◌, ap, sym, ◌∙◌}
-use mathlib.Core.Bool.{Bool, true, false, cond, ◌&&◌}
+use mathlib.Core.Bool.{Bool, true, false}
 use mathlib.Core.List.{List, map, map-id}
-use Prim.Native.Nat.{ℕ, ◌-◌, ◌≤◌, ◌<◌}
+use Prim.Native.Nat.{ℕ, ◌<◌}
 use native.Mathlib.Omega.{arith}
-use borrow.Author.Rules.{rules}
 use borrow.Author.Tests.{eq-eqb, ne_eqb}
-use lib.Dec.{eqb, leb}
+use lib.Dec.{eqb}
 use Rattle.model.specs.Searches.{all, up_to}
-use Rattle.model.specs.Formed.{times}
-use Rattle.model.proofs.Loops.{AllLeft, all_begin, passed, failed, all_passed, listed}
+use Rattle.model.proofs.Loops.{all_begin, passed, failed, all_passed}
 use Rattle.lists.specs.Words.{nibble, entry_of}
 use Rattle.lists.specs.Lists.{queued}
 use Rattle.formed.specs.Clauses.{names_by, names_those}

@@ -1,18 +1,14 @@
 -- `names` meets its contract: a loop that asks whether the table, which counts the list, has every thread as often as its condition says.
-use mathlib.Core.Path.{◌≡◌, ap, sym, ◌∙◌}
-use mathlib.Core.Bool.{Bool, true, false, cond, ◌&&◌}
-use mathlib.Core.List.{List, map, map-id}
+use mathlib.Core.Path.{◌≡◌}
+use mathlib.Core.Bool.{Bool, cond, ◌&&◌}
+use mathlib.Core.List.{List, map}
 use Prim.Native.Nat.{ℕ, ◌-◌, ◌≤◌, ◌<◌}
-use native.Mathlib.Omega.{arith}
-use borrow.Author.Rules.{rules}
-use borrow.Author.Tests.{eq-eqb, ne_eqb}
 use lib.Dec.{eqb, leb}
-use Rattle.model.specs.Searches.{all, up_to}
+use Rattle.model.specs.Searches.{up_to}
 use Rattle.model.specs.Formed.{times}
-use Rattle.model.proofs.Loops.{AllLeft, all_begin, passed, failed, all_passed, listed}
+use Rattle.model.proofs.Loops.{AllLeft, listed}
 use Rattle.lists.specs.Words.{nibble, entry_of}
-use Rattle.lists.specs.Lists.{queued}
-use Rattle.formed.specs.Clauses.{names_by, names_those}
+use Rattle.formed.specs.Clauses.{names_by}
 use Rattle.formed.proofs.standing.names.Given as goal
 
 -- what the table says of a thread

@@ -1,9 +1,7 @@
 -- `stand_once` meets its contract: all sixteen threads at once, or one list after another.
 use mathlib.Core.Path.{◌≡◌, sym, ◌∙◌}
-use mathlib.Core.Logic.{⊎_elim}
 use mathlib.Core.Bool.{Bool, ◌&&◌}
 use Prim.Native.Nat.{◌+◌}
-use borrow.Author.Rules.{rules}
 use borrow.Author.Tests.{ltb-true}
 use Rattle.model.proofs.Tests.{from_true}
 use Rattle.lists.specs.Lists.{queued}

@@ -1,5 +1,4 @@
 -- `arming_in_range` meets its contract: where an arming is in progress, its stage is one that there is and its timer decides.
-use borrow.Author.Rules.{rules}
 use Rattle.formed.proofs.Timing.{none_begun, one_begun, no_stage}
 use Rattle.formed.proofs.timers.arming_in_range.Goals as goal
 use Rattle.formed.proofs.timers.arming_in_range.Goals.{Else-arming-eq0, Then-arming-le2}

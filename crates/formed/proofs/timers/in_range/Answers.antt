@@ -1,7 +1,6 @@
 -- `timers::in_range` meets its contract: the expiries are asked where the arming is in range.
 use mathlib.Core.Path.{sym, ◌∙◌}
 use mathlib.Core.Bool.{Bool}
-use borrow.Author.Rules.{rules}
 use Rattle.model.specs.Searches.{all, up_to}
 use Rattle.model.specs.Records.{timer_count}
 use Rattle.model.specs.Formed.{arming_in_range, timer_in_range}

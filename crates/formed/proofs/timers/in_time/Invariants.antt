@@ -1,13 +1,9 @@
 -- `timers::in_time` meets its contract: a loop that asks whether all pass, without an early end.
-use mathlib.Core.Logic.{⊎_elim}
 use mathlib.Core.Bool.{Bool}
 use Prim.Native.Nat.{ℕ, ◌-◌, ◌≤◌}
-use native.Mathlib.Omega.{arith}
-use borrow.Author.Rules.{rules}
-use borrow.Author.Tests.{le-leb, lt-leb}
 use lib.Dec.{leb}
 use Rattle.model.specs.Formed.{last_expiry}
-use Rattle.model.proofs.Loops.{AllPass, all_begin, pass_kept, pass_lost, all_asked}
+use Rattle.model.proofs.Loops.{AllPass}
 use Rattle.clock.specs.View.{number_at}
 use Rattle.formed.proofs.timers.in_time.Given as goal
 

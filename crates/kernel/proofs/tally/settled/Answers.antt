@@ -2,9 +2,8 @@
 use mathlib.Core.Path.{ap}
 use native.Mathlib.Omega.{arith}
 use lib.ListN.{length}
-use Rattle.machine.specs.View.{view}
 use Rattle.machine.specs.Clauses.{Owes}
-use Rattle.kernel.proofs.Giving.{Giving, giving_begin, giving_owes, giving_due, giving_next, giving_done}
+use Rattle.kernel.proofs.Giving.{giving_begin, giving_owes, giving_due, giving_next, giving_done}
 use Rattle.kernel.proofs.tally.settled.Goals as goal
 use Rattle.kernel.proofs.tally.settled.Goals.{In-loop-r}
 

@@ -1,13 +1,12 @@
 -- `tally` meets its contract: after k calls the records so far are counted.
 use mathlib.Core.Path.{◌≡◌, refl, ap, sym, subst, ◌∙◌}
 use mathlib.Core.Bool.{Bool, cond}
-use mathlib.Core.List.{List, [], ◌++◌}
+use mathlib.Core.List.{[], ◌++◌}
 use mathlib.Core.Option.{none, some}
-use Prim.Native.Nat.{◌+◌, ◌-◌, ◌≤◌, ◌<◌}
+use Prim.Native.Nat.{◌+◌, ◌≤◌, ◌<◌}
 use native.Mathlib.Omega.{arith}
 use borrow.Author.Tests.{not-true, not-false}
 use lib.ListN.{length}
-use Rattle.model.specs.Records.{Record}
 use Rattle.machine.specs.View.{view}
 use Rattle.machine.specs.Clauses.{Fresh}
 use Rattle.dump.specs.Layout.{record_count, running_place}
@@ -16,7 +15,7 @@ use Rattle.kernel.specs.Answers.{is_made, records_of}
 use Rattle.kernel.specs.Clauses.{Passed, made_of}
 use Rattle.kernel.proofs.Giving.{IsFormed}
 use Rattle.kernel.proofs.CallList.{list_whole, calls_few}
-use Rattle.kernel.proofs.CallsMade.{CallsMade, added, added_count, made_begin, made_all, made_steps, made_broke, made_due, made_formed, made_next}
+use Rattle.kernel.proofs.CallsMade.{added, added_count, made_begin, made_all, made_steps, made_broke, made_due, made_formed, made_next}
 use Rattle.kernel.proofs.tally.tally.Goals as goal
 use Rattle.kernel.proofs.tally.tally.Goals.{After-is_complete, After-step-o, At-loop-k, Else-o-ne0, In-loop-k, Start}
 
@@ -28,8 +27,7 @@ first_operand-running-requires c = calls_few c.requires
 
 pub loop-k-init : goal.loop-k-init
 loop-k-init c =
-    let f = c.fresh-s in
-    (
+    let f = c.fresh-s in (
       omega arith,
       [],
       refl,

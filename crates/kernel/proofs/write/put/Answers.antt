@@ -1,6 +1,5 @@
 -- `put` meets its contract: three bytes are stored, and there is room for each.
 use native.Mathlib.Omega.{arith}
-use borrow.Author.Rules.{rules}
 use lib.ListN.{length-set}
 use Rattle.kernel.proofs.write.put.Goals as goal
 

@@ -3,10 +3,9 @@ use mathlib.Core.Path.{ap}
 use Prim.Native.Nat.{◌+◌, ◌<◌, ◌^◌}
 use native.Mathlib.Omega.{arith}
 use lib.ListN.{length}
-use Rattle.machine.specs.View.{view}
 use Rattle.machine.specs.Clauses.{Owes}
 use Rattle.kernel.proofs.Giving.{giving_owes, giving_due}
-use Rattle.kernel.proofs.Putting.{Putting, putting_begin, putting_fits, putting_next, putting_done}
+use Rattle.kernel.proofs.Putting.{putting_begin, putting_fits, putting_next, putting_done}
 use Rattle.kernel.proofs.write.put_reports.Goals as goal
 use Rattle.kernel.proofs.write.put_reports.Goals.{After-first_due-r, After-put, In-loop-r}
 

@@ -1,20 +1,19 @@
 -- `write` meets its contract: after k calls their records stand at their places.
 use mathlib.Core.Path.{◌≡◌, refl, ap, sym, subst, ◌∙◌}
-use mathlib.Core.List.{List, [], ◌++◌, map}
-use Prim.Native.Nat.{◌+◌, ◌*◌, ◌-◌, ◌≤◌}
+use mathlib.Core.List.{[], ◌++◌, map}
+use Prim.Native.Nat.{◌+◌, ◌≤◌}
 use native.Mathlib.Omega.{arith}
-use borrow.Author.Rules.{rules}
 use lib.ListN.{length, length-set}
-use Rattle.model.specs.Records.{Record, call, report}
+use Rattle.model.specs.Records.{call, report}
 use Rattle.machine.specs.View.{view}
 use Rattle.machine.specs.Clauses.{Fresh}
 use Rattle.dump.specs.Layout.{record_count, running_place}
 use Rattle.dump.proofs.Laws.{running_place_lem, running_next}
 use Rattle.kernel.specs.Answers.{records_of, bytes_for, at_front}
-use Rattle.kernel.specs.Clauses.{Passed, made_of, records_put, AllFit}
+use Rattle.kernel.specs.Clauses.{Passed, made_of, AllFit}
 use Rattle.kernel.proofs.Placing.{from_size, from_next, counted, all_placed_lem}
 use Rattle.kernel.proofs.CallList.{call_at, list_whole, calls_few, call_kind_lem, call_operand_lem}
-use Rattle.kernel.proofs.CallsMade.{CallsMade, added, added_count, made_begin, made_written, made_steps, made_admitted, made_within, made_formed, made_next}
+use Rattle.kernel.proofs.CallsMade.{added, added_count, made_begin, made_written, made_steps, made_admitted, made_within, made_formed, made_next}
 use Rattle.kernel.proofs.write.write.Goals as goal
 use Rattle.kernel.proofs.write.write.Goals.{After-put, After-put_reports-arg-1, After-put_reports-w, After-s-1, After-step-o, At-loop-k, Start}
 
@@ -38,8 +37,7 @@ first_operand-to-requires c = c.requires.1.few
 
 pub loop-k-init : goal.loop-k-init
 loop-k-init c =
-    let f = c.fresh-s in
-    (
+    let f = c.fresh-s in (
       omega arith,
       [],
       refl,
@@ -87,8 +85,13 @@ fits c =
     let w = made_within ((let it : (let a = c.args in Passed c.fresh-s.result.machine.plan a.ceilings.now a.list.now a.calls) = let a = c.args in
     subst (λ p. Passed p a.ceilings.now a.list.now a.calls) (sym c.fresh-s.ensures.plan') c.requires.0 in it)) c.loop-k.invariant.3 c.loop-k-test.true c.step-o.result c.step-o.ensures (admitted c) ((let it : (let a = c.args in AllFit (made_of c.fresh-s.result.machine.plan a.list.now) a.n a.out.now) = let a = c.args in
     subst (λ p. AllFit (made_of p a.list.now) a.n a.out.now) (sym c.fresh-s.ensures.plan') c.requires.1 in it)).admitted in
-    omega (arith, w, ((let it : (let a = c.args in AllFit (made_of c.fresh-s.result.machine.plan a.list.now) a.n a.out.now) = let a = c.args in
-    subst (λ p. AllFit (made_of p a.list.now) a.n a.out.now) (sym c.fresh-s.ensures.plan') c.requires.1 in it)).count, c.loop-k.invariant.2)
+    omega (
+      arith,
+      w,
+      ((let it : (let a = c.args in AllFit (made_of c.fresh-s.result.machine.plan a.list.now) a.n a.out.now) = let a = c.args in
+          subst (λ p. AllFit (made_of p a.list.now) a.n a.out.now) (sym c.fresh-s.ensures.plan') c.requires.1 in it)).count,
+      c.loop-k.invariant.2,
+    )
 
 pub put-requires : goal.put-requires
 put-requires c =

@@ -1,20 +1,12 @@
 -- `write` meets its contract: after k calls their records stand at their places.
-use mathlib.Core.Path.{◌≡◌, refl, ap, sym, subst, ◌∙◌}
-use mathlib.Core.List.{List, [], ◌++◌, map}
+use mathlib.Core.Path.{◌≡◌}
+use mathlib.Core.List.{List}
 use Prim.Native.Nat.{◌+◌, ◌*◌, ◌-◌, ◌≤◌}
-use native.Mathlib.Omega.{arith}
-use borrow.Author.Rules.{rules}
-use lib.ListN.{length, length-set}
-use Rattle.model.specs.Records.{Record, call, report}
-use Rattle.machine.specs.View.{view}
-use Rattle.machine.specs.Clauses.{Fresh}
+use lib.ListN.{length}
+use Rattle.model.specs.Records.{Record}
 use Rattle.dump.specs.Layout.{record_count, running_place}
-use Rattle.dump.proofs.Laws.{running_place_lem, running_next}
-use Rattle.kernel.specs.Answers.{records_of, bytes_for, at_front}
-use Rattle.kernel.specs.Clauses.{Passed, made_of, records_put, AllFit}
-use Rattle.kernel.proofs.Placing.{from_size, from_next, counted, all_placed_lem}
-use Rattle.kernel.proofs.CallList.{call_at, list_whole, calls_few, call_kind_lem, call_operand_lem}
-use Rattle.kernel.proofs.CallsMade.{CallsMade, added, added_count, made_begin, made_written, made_steps, made_admitted, made_within, made_formed, made_next}
+use Rattle.kernel.specs.Clauses.{records_put}
+use Rattle.kernel.proofs.CallsMade.{CallsMade}
 use Rattle.kernel.proofs.write.write.Given as goal
 
 abbrev pub invariant-loop-k : goal.invariant-loop-k

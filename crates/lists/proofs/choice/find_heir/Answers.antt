@@ -3,14 +3,13 @@ use mathlib.Core.Path.{◌≡◌, refl, ap}
 use mathlib.Core.Bool.{Bool, true, false, not}
 use mathlib.Core.List.{List}
 use Prim.Native.Nat.{ℕ, ◌-◌, ◌/◌, ◌%◌}
-use borrow.Author.Rules.{rules}
 use borrow.Author.Tests.{lt-ltb, le-ltb}
 use Rattle.model.specs.Searches.{any}
 use Rattle.model.specs.State as state
 use Rattle.lists.specs.Words.{entry_of}
 use Rattle.lists.specs.Lists.{queued, held}
 use Rattle.lists.proofs.Queues.{nobody}
-use Rattle.lists.proofs.Holdings.{AnyLeft, missed, found, none_found}
+use Rattle.lists.proofs.Holdings.{missed, found, none_found}
 use Rattle.lists.proofs.Heirs.{bars, HeirLeft, turns_to, stays, found_heir}
 use Rattle.lists.proofs.choice.find_heir.Goals as goal
 use Rattle.lists.proofs.choice.find_heir.Goals.{At-loop-n, At-waits, Start, Then-top-b}
@@ -58,8 +57,7 @@ waits-preserved-then-b-all c =
 
 pub loop-n-preserved : goal.loop-n-preserved
 loop-n-preserved c =
-    let l = c.loop-n in
-    (
+    let l = c.loop-n in (
       l.invariant.0 / 16,
       missed (barred (goal.at.loop-n-preserved c).Then-top-b) (holding (goal.at.loop-n-preserved c).Then-top-b) l.n l.sections l.invariant.0 c.loop-n-test.true l.invariant.1
           (ap not (lt-ltb (entry_of (ceilings (goal.at.loop-n-preserved c).Then-top-b) (l.sections % 16)) (base (goal.at.loop-n-preserved c).Then-top-b (next (goal.at.loop-n-preserved c).Then-top-b)) c.if-b-all.false)),

@@ -1,17 +1,9 @@
 -- `find_heir` meets its contract: the heir kept so far and the waits left give the heir, and whether a hold left bars it is whether any hold does.
-use mathlib.Core.Path.{◌≡◌, refl, ap}
-use mathlib.Core.Bool.{Bool, true, false, not}
-use mathlib.Core.List.{List}
-use Prim.Native.Nat.{ℕ, ◌-◌, ◌/◌, ◌%◌}
-use borrow.Author.Rules.{rules}
-use borrow.Author.Tests.{lt-ltb, le-ltb}
-use Rattle.model.specs.Searches.{any}
-use Rattle.model.specs.State as state
+use Prim.Native.Nat.{ℕ}
 use Rattle.lists.specs.Words.{entry_of}
-use Rattle.lists.specs.Lists.{queued, held}
-use Rattle.lists.proofs.Queues.{nobody}
-use Rattle.lists.proofs.Holdings.{AnyLeft, missed, found, none_found}
-use Rattle.lists.proofs.Heirs.{bars, HeirLeft, turns_to, stays, found_heir}
+use Rattle.lists.specs.Lists.{held}
+use Rattle.lists.proofs.Holdings.{AnyLeft}
+use Rattle.lists.proofs.Heirs.{bars, HeirLeft}
 use Rattle.lists.proofs.choice.find_heir.Given as goal
 
 -- only the sections are walked, so whichever threads hold them

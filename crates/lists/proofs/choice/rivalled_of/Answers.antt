@@ -1,7 +1,6 @@
 -- `rivalled_of` meets its contract: the owner's number and the urgency that it finds tell every current priority.
 use mathlib.Core.Path.{◌∙◌}
 use native.Mathlib.Omega.{arith}
-use borrow.Author.Rules.{rules}
 use Rattle.lists.specs.Words.{entry_of}
 use Rattle.lists.specs.Lists.{queued}
 use Rattle.lists.proofs.Laws.{nibbles_small}

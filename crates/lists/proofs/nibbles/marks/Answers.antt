@@ -1,15 +1,13 @@
 -- `marks` meets its contract: what each place of the word counts, and how often its number is left, is what it counted at first and how often its number stands in the other word.
-use mathlib.Core.Path.{◌≡◌, refl, ◌∙◌}
-use Prim.Native.Nat.{ℕ, ◌+◌, ◌-◌, ◌/◌, ◌%◌, ◌^◌, ◌<◌}
+use mathlib.Core.Path.{refl, ◌∙◌}
+use Prim.Native.Nat.{◌+◌, ◌-◌, ◌/◌, ◌%◌, ◌^◌, ◌<◌}
 use native.Mathlib.Omega.{arith}
 use borrow.Author.Rules.{rules}
 use borrow.Author.Tests.{eq-eqb}
 use lib.Dec.{eqb}
-use Rattle.model.specs.Formed.{times}
 use Rattle.lists.specs.Words.{nibble, with_nibble, nibbles}
 use Rattle.lists.proofs.Words.{one_more, set-fits}
 use Rattle.lists.proofs.Queues.{first, ended, marked, times_within}
-use Rattle.lists.proofs.nibbles.marks.Invariants.{Counts}
 use Rattle.lists.proofs.nibbles.marks.Goals as goal
 use Rattle.lists.proofs.nibbles.marks.Goals.{In-loop-left}
 

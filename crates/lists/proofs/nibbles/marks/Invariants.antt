@@ -1,14 +1,9 @@
 -- `marks` meets its contract: what each place of the word counts, and how often its number is left, is what it counted at first and how often its number stands in the other word.
-use mathlib.Core.Path.{◌≡◌, refl, ◌∙◌}
-use Prim.Native.Nat.{ℕ, ◌+◌, ◌-◌, ◌/◌, ◌%◌, ◌^◌, ◌<◌}
-use native.Mathlib.Omega.{arith}
-use borrow.Author.Rules.{rules}
-use borrow.Author.Tests.{eq-eqb}
+use mathlib.Core.Path.{◌≡◌}
+use Prim.Native.Nat.{ℕ, ◌+◌, ◌^◌, ◌<◌}
 use lib.Dec.{eqb}
 use Rattle.model.specs.Formed.{times}
-use Rattle.lists.specs.Words.{nibble, with_nibble, nibbles}
-use Rattle.lists.proofs.Words.{one_more, set-fits}
-use Rattle.lists.proofs.Queues.{first, ended, marked, times_within}
+use Rattle.lists.specs.Words.{nibble, nibbles}
 use Rattle.lists.proofs.nibbles.marks.Given as goal
 
 -- what each place of the word counts, and how often its number is left

@@ -1,17 +1,10 @@
 -- `tally` meets its contract: what each place of the table counts, and how often its number is left, is how often it stands in the word.
-use mathlib.Core.Path.{◌≡◌, ap, sym, ◌∙◌}
-use mathlib.Core.List.{List, map}
-use Prim.Native.Nat.{ℕ, ◌+◌, ◌-◌, ◌/◌, ◌%◌, ◌<◌}
-use native.Mathlib.Omega.{arith}
-use borrow.Author.Rules.{rules}
+use mathlib.Core.Path.{◌≡◌}
+use Prim.Native.Nat.{ℕ, ◌+◌, ◌<◌}
 use lib.Dec.{eqb}
-use lib.ListN.{length, length-set, get_or-replicate}
-use lib.Seq.{ext_get_or}
-use Rattle.model.specs.Searches.{up_to}
+use lib.ListN.{length}
 use Rattle.model.specs.Formed.{times}
-use Rattle.model.proofs.Loops.{listed, length-listed}
 use Rattle.lists.specs.Words.{nibbles, entry_of}
-use Rattle.lists.proofs.Queues.{first, ended, counted, times_within}
 use Rattle.lists.proofs.nibbles.tally.Given as goal
 
 abbrev pub invariant-loop-left : goal.invariant-loop-left

@@ -1,6 +1,5 @@
 -- `current` meets its contract: the owner has the greater of its base and the waits', another its base.
 use mathlib.Core.Path.{refl}
-use borrow.Author.Rules.{rules}
 use borrow.Author.Tests.{eq-eqb, ne_eqb}
 use Rattle.lists.proofs.queue.current.Goals as goal
 

@@ -1,9 +1,8 @@
 -- `begin` meets its contract: the plan of bytes that nothing refuses, and no thread where something does.
 use mathlib.Core.Path.{◌≡◌, refl, ap, sym, ◌∙◌}
-use mathlib.Core.Logic.{⊎_elim, ◌≢◌}
+use mathlib.Core.Logic.{◌≢◌}
 use mathlib.Core.Option.{Option, none, some}
 use Prim.Native.Nat.{ℕ}
-use borrow.Author.Rules.{rules}
 use Rattle.model.specs.Plan as model
 use Rattle.model.specs.State as state
 use Rattle.keeping.specs.Top.{walk_by, walk}

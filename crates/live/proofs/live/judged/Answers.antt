@@ -1,6 +1,5 @@
 -- `judged` meets its contract: the record is walked over with the ceilings of the state's plan.
 use mathlib.Core.Path.{subst}
-use borrow.Author.Rules.{rules}
 use native.Mathlib.Omega.{arith}
 use Rattle.plan.proofs.Laws.{valid_fits}
 use Rattle.machine.proofs.Laws.{formed_facts}

@@ -2,7 +2,6 @@
 -- any other is judged by its record.
 use mathlib.Core.Path.{◌≡◌, refl, sym, ◌∙◌}
 use mathlib.Core.Option.{none}
-use borrow.Author.Rules.{rules}
 use Rattle.live.specs.Watching.{refusal}
 use Rattle.machine.proofs.Laws.{lent_delays}
 use Rattle.live.specs.Clauses.{Asked, seen}

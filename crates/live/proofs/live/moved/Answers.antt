@@ -1,5 +1,4 @@
 -- `moved` meets its contract: the number due is that of the state after the record.
-use borrow.Author.Rules.{rules}
 use Rattle.live.proofs.live.moved.Goals as goal
 
 pub returns : goal.returns

@@ -1,8 +1,6 @@
 -- `refused` meets its contract: 12 is answered before what was found of the record.
 use mathlib.Core.Path.{◌≡◌, sym, ◌∙◌}
-use mathlib.Core.Logic.{⊎_elim}
 use mathlib.Core.Bool.{true}
-use borrow.Author.Rules.{rules}
 use borrow.Author.Tests.{not-true, not-false}
 use Rattle.machine.specs.Kept.{sound}
 use Rattle.live.specs.Watching.{refusal}

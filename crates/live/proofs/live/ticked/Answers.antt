@@ -1,6 +1,5 @@
 -- `ticked` meets its contract: the tick number grows by one, and nothing else changes.
 use native.Mathlib.Omega.{arith}
-use borrow.Author.Rules.{rules}
 use Rattle.live.proofs.live.ticked.Goals as goal
 
 pub next-number-requires : goal.next-number-requires

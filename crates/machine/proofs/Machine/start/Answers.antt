@@ -1,7 +1,6 @@
 -- `Machine::start` meets its contract: empty lists, and slots that are all dormant.
 use mathlib.Core.Path.{refl}
 use lib.ListN.{replicate}
-use borrow.Author.Rules.{rules}
 use Rattle.plan.proofs.Laws.{threads_view}
 use Rattle.plan.specs.View as plans
 use Rattle.machine.proofs.Conditions.{all_dormant}

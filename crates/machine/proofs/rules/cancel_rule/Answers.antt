@@ -1,5 +1,4 @@
 -- `cancel_rule` meets its contract: a thread runs, and the timer is armed.
-use borrow.Author.Rules.{rules}
 use borrow.Author.Tests.{eq-eqb, ne_eqb}
 use Rattle.machine.proofs.rules.cancel_rule.Goals as goal
 

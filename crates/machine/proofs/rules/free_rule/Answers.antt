@@ -1,5 +1,4 @@
 -- `free_rule` meets its contract: the answer of `free` decides.
-use borrow.Author.Rules.{rules}
 use borrow.Author.Tests.{eq-eqb, ne_eqb}
 use Rattle.machine.proofs.rules.free_rule.Goals as goal
 

@@ -1,5 +1,4 @@
 -- `give_rule` meets its contract: the answer of `last_taken` is compared with the section.
-use borrow.Author.Rules.{rules}
 use borrow.Author.Tests.{eq-eqb, ne_eqb}
 use Rattle.machine.proofs.rules.give_rule.Goals as goal
 

@@ -1,5 +1,4 @@
 -- `take_rule` meets its contract: the answers of `may_take` and `lacks` decide, in this order.
-use borrow.Author.Rules.{rules}
 use borrow.Author.Tests.{eq-eqb, ne_eqb, not-true, not-false}
 use Rattle.machine.proofs.rules.take_rule.Goals as goal
 

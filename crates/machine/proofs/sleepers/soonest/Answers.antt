@@ -1,9 +1,8 @@
 -- `soonest` meets its contract: the least of the number kept and of those that the sleepers left wait for is the least of all.
-use mathlib.Core.Path.{◌≡◌, ap}
+use mathlib.Core.Path.{ap}
 use mathlib.Core.List.{List, [], ◌∷◌}
-use Prim.Native.Nat.{ℕ, min, ◌≤◌}
+use Prim.Native.Nat.{ℕ, ◌≤◌}
 use native.Mathlib.Omega.{arith}
-use borrow.Author.Rules.{rules}
 use Rattle.model.specs.Formed.{last_wake}
 use Rattle.lists.specs.Words.{nibbles}
 use Rattle.lists.proofs.Laws.{first, ended}

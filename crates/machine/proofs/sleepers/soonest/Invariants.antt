@@ -1,13 +1,8 @@
 -- `soonest` meets its contract: the least of the number kept and of those that the sleepers left wait for is the least of all.
-use mathlib.Core.Path.{◌≡◌, ap}
-use mathlib.Core.List.{List, [], ◌∷◌}
-use Prim.Native.Nat.{ℕ, min, ◌≤◌}
-use native.Mathlib.Omega.{arith}
-use borrow.Author.Rules.{rules}
+use mathlib.Core.Path.{◌≡◌}
+use Prim.Native.Nat.{min, ◌≤◌}
 use Rattle.model.specs.Formed.{last_wake}
 use Rattle.lists.specs.Words.{nibbles}
-use Rattle.lists.proofs.Laws.{first, ended}
-use Rattle.clock.specs.declared.time.Tick.{Tick}
 use Rattle.machine.specs.Clauses.{soonest}
 use Rattle.machine.proofs.sleepers.soonest.Given as goal
 

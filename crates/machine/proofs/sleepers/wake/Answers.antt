@@ -1,9 +1,8 @@
 -- `wake` meets its contract: what is done for the sleepers seen so far, and what is left to do, is what is done for all.
 use mathlib.Core.Path.{◌≡◌, ap, subst}
 use mathlib.Core.List.{List, [], ◌∷◌, ◌++◌}
-use Prim.Native.Nat.{ℕ, ◌+◌, ◌-◌, ◌/◌, ◌%◌, ◌≤◌}
+use Prim.Native.Nat.{ℕ, ◌+◌, ◌-◌, ◌/◌, ◌%◌}
 use native.Mathlib.Omega.{arith}
-use borrow.Author.Rules.{rules}
 use borrow.Author.Tests.{eq-eqb, ne_eqb}
 use lib.ListN.{length, length-append}
 use Rattle.lists.specs.declared.queue.Queue.{Queue}
@@ -57,8 +56,7 @@ loop-left-smaller-then-until-number c = omega (arith, c.loop-left-test.true)
 
 pub loop-left-preserved-then-until-number : goal.loop-left-preserved-then-until-number
 loop-left-preserved-then-until-number c =
-    let l = c.loop-left in
-    (
+    let l = c.loop-left in (
       omega (arith, l.invariant.0, longer l.line c.push-line.result (l.rest % 16) c.push-line.ensures, c.loop-left-test.true),
       omega (arith, l.invariant.1),
       omega (arith, l.invariant.2, longer l.woken c.push-woken.result (l.rest % 16) c.push-woken.ensures, c.loop-left-test.true),
@@ -73,8 +71,7 @@ loop-left-smaller c = omega (arith, c.loop-left-test.true)
 
 pub loop-left-preserved : goal.loop-left-preserved
 loop-left-preserved c =
-    let l = c.loop-left in
-    (
+    let l = c.loop-left in (
       omega (arith, l.invariant.0),
       omega (arith, l.invariant.1, longer l.asleep c.push-asleep.result (l.rest % 16) c.push-asleep.ensures, c.loop-left-test.true),
       omega (arith, l.invariant.2),

@@ -1,17 +1,7 @@
 -- `wake` meets its contract: what is done for the sleepers seen so far, and what is left to do, is what is done for all.
-use mathlib.Core.Path.{◌≡◌, ap, subst}
-use mathlib.Core.List.{List, [], ◌∷◌, ◌++◌}
-use Prim.Native.Nat.{ℕ, ◌+◌, ◌-◌, ◌/◌, ◌%◌, ◌≤◌}
-use native.Mathlib.Omega.{arith}
-use borrow.Author.Rules.{rules}
-use borrow.Author.Tests.{eq-eqb, ne_eqb}
-use lib.ListN.{length, length-append}
-use Rattle.lists.specs.declared.queue.Queue.{Queue}
+use Prim.Native.Nat.{◌+◌, ◌≤◌}
 use Rattle.lists.specs.Words.{nibbles}
-use Rattle.lists.specs.Lists.{queued}
-use Rattle.lists.proofs.Laws.{first, ended, length-queued}
-use Rattle.clock.specs.View.{number_at}
-use Rattle.machine.proofs.Woken.{Waking, waking_begin, waking_done, wakes_up, sleeps_on}
+use Rattle.machine.proofs.Woken.{Waking}
 use Rattle.machine.proofs.sleepers.wake.Given as goal
 
 abbrev pub invariant-loop-left : goal.invariant-loop-left

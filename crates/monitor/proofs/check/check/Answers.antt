@@ -2,7 +2,6 @@
 use mathlib.Core.Path.{◌≡◌, ap, sym, ◌∙◌}
 use mathlib.Core.Bool.{false}
 use mathlib.Core.Option.{none}
-use borrow.Author.Rules.{rules}
 use Rattle.plan.specs.Bytes.{refusal}
 use Rattle.plan.proofs.Laws as plan-laws
 use Rattle.dump.specs.Layout.{running_place}

@@ -1,11 +1,9 @@
 -- `bases_of` meets its contract: what is stored and what is left give the bases.
-use mathlib.Core.Path.{◌≡◌, refl}
-use Prim.Native.Nat.{◌-◌, ◌≤◌}
+use mathlib.Core.Path.{refl}
 use native.Mathlib.Omega.{arith}
-use borrow.Author.Rules.{rules}
-use lib.ListN.{length, length-set}
+use lib.ListN.{length-set}
 use Rattle.plan.specs.Bytes.{thread_count, base_at}
-use Rattle.model.proofs.Loops.{Filled, fill_begin, stored}
+use Rattle.model.proofs.Loops.{fill_begin, stored}
 use Rattle.plan.proofs.Entries.{filled}
 use Rattle.plan.proofs.bytes.bases_of.Goals as goal
 

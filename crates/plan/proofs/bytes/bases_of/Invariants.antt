@@ -1,12 +1,9 @@
 -- `bases_of` meets its contract: what is stored and what is left give the bases.
-use mathlib.Core.Path.{◌≡◌, refl}
+use mathlib.Core.Path.{◌≡◌}
 use Prim.Native.Nat.{◌-◌, ◌≤◌}
-use native.Mathlib.Omega.{arith}
-use borrow.Author.Rules.{rules}
-use lib.ListN.{length, length-set}
+use lib.ListN.{length}
 use Rattle.plan.specs.Bytes.{thread_count, base_at}
-use Rattle.model.proofs.Loops.{Filled, fill_begin, stored}
-use Rattle.plan.proofs.Entries.{filled}
+use Rattle.model.proofs.Loops.{Filled}
 use Rattle.plan.proofs.bytes.bases_of.Given as goal
 
 abbrev pub invariant-loop-t : goal.invariant-loop-t

@@ -1,6 +1,5 @@
 -- `byte_at` meets its contract: a byte is below 256.
 use native.Mathlib.Omega.{arith}
-use borrow.Author.Rules.{rules}
 use Rattle.plan.proofs.bytes.byte_at.Goals as goal
 
 pub overflow_cast-result : goal.overflow_cast-result

@@ -1,5 +1,4 @@
 -- `has_counts` meets its contract: the length is asked before the counts.
-use borrow.Author.Rules.{rules}
 use borrow.Author.Tests.{le-leb, lt-leb}
 use lib.ListN.{length}
 use Rattle.plan.proofs.bytes.has_counts.Goals as goal

@@ -1,6 +1,5 @@
 -- `has_length` meets its contract: the sum fits, since a byte is below 256.
 use native.Mathlib.Omega.{arith}
-use borrow.Author.Rules.{rules}
 use Rattle.plan.proofs.bytes.has_length.Goals as goal
 
 pub overflow_mul-result : goal.overflow_mul-result

@@ -1,6 +1,5 @@
 -- `has_needs` meets its contract: what passes is what was read from the bytes.
 use mathlib.Core.Path.{ap, ap₂, ◌∙◌}
-use borrow.Author.Rules.{rules}
 use Rattle.model.specs.Searches.{all}
 use Rattle.plan.specs.Bytes.{section_count, needs_within}
 use Rattle.plan.specs.View.{in_use}

@@ -1,6 +1,5 @@
 -- `has_priorities` meets its contract: what passes is what was read from the bytes.
 use mathlib.Core.Path.{ap, ◌∙◌}
-use borrow.Author.Rules.{rules}
 use Rattle.model.specs.Searches.{all}
 use Rattle.plan.specs.Bytes.{is_priority}
 use Rattle.plan.specs.View.{in_use}

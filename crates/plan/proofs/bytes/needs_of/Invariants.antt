@@ -1,13 +1,9 @@
 -- `needs_of` meets its contract: what is stored and what is left give the needs.
-use mathlib.Core.Path.{◌≡◌, refl, ap, ◌∙◌}
-use Prim.Native.Nat.{◌+◌, ◌*◌, ◌-◌, ◌≤◌}
-use native.Mathlib.Omega.{arith}
-use borrow.Author.Rules.{rules}
-use lib.ListN.{length, length-set}
+use mathlib.Core.Path.{◌≡◌}
+use Prim.Native.Nat.{◌-◌, ◌≤◌}
+use lib.ListN.{length}
 use Rattle.plan.specs.Bytes.{thread_count, needs_at}
-use Rattle.plan.specs.Words.{word}
-use Rattle.model.proofs.Loops.{Filled, fill_begin, stored}
-use Rattle.plan.proofs.Entries.{filled}
+use Rattle.model.proofs.Loops.{Filled}
 use Rattle.plan.proofs.bytes.needs_of.Given as goal
 
 abbrev pub invariant-loop-t : goal.invariant-loop-t

@@ -1,7 +1,6 @@
 -- `refusal` meets its contract: the questions are asked in their order, and the first No ends.
 use mathlib.Core.Path.{◌≡◌, sym, ◌∙◌}
 use mathlib.Core.Bool.{true}
-use borrow.Author.Rules.{rules}
 use borrow.Author.Tests.{not-true, not-false}
 use Rattle.model.proofs.Tests.{from_true}
 use Rattle.plan.specs.Bytes.{has_counts, has_length, has_priorities, questions, refusal, Whole}

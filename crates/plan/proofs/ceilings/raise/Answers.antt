@@ -1,5 +1,4 @@
 -- `raise` meets its contract: the bit decides whether the base counts.
-use borrow.Author.Rules.{rules}
 use Rattle.plan.proofs.ceilings.raise.Goals as goal
 
 pub returns-then-needs_bit : goal.returns-then-needs_bit

@@ -1,14 +1,10 @@
 -- `raised` meets its contract: a loop that stores one section's greatest base in each turn.
-use mathlib.Core.Path.{◌≡◌, refl, sym, ◌∙◌}
-use mathlib.Core.Bool.{cond}
-use mathlib.Core.List.{List}
-use Prim.Native.Nat.{ℕ, ◌-◌, ◌≤◌, max}
+use mathlib.Core.Path.{refl, sym, ◌∙◌}
 use native.Mathlib.Omega.{arith}
 use borrow.Author.Rules.{rules}
-use lib.ListN.{length, length-set, get_or}
+use lib.ListN.{length-set}
 use lib.Seq.{take_all}
-use Rattle.model.specs.Plan.{bit}
-use Rattle.model.proofs.Loops.{Filled, stored, full}
+use Rattle.model.proofs.Loops.{stored, full}
 use Rattle.plan.proofs.ceilings.raised.Invariants.{top}
 use Rattle.plan.proofs.ceilings.raised.Goals as goal
 

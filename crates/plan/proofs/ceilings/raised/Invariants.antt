@@ -1,14 +1,11 @@
 -- `raised` meets its contract: a loop that stores one section's greatest base in each turn.
-use mathlib.Core.Path.{◌≡◌, refl, sym, ◌∙◌}
+use mathlib.Core.Path.{◌≡◌}
 use mathlib.Core.Bool.{cond}
 use mathlib.Core.List.{List}
 use Prim.Native.Nat.{ℕ, ◌-◌, ◌≤◌, max}
-use native.Mathlib.Omega.{arith}
-use borrow.Author.Rules.{rules}
-use lib.ListN.{length, length-set, get_or}
-use lib.Seq.{take_all}
+use lib.ListN.{length, get_or}
 use Rattle.model.specs.Plan.{bit}
-use Rattle.model.proofs.Loops.{Filled, stored, full}
+use Rattle.model.proofs.Loops.{Filled}
 use Rattle.plan.proofs.ceilings.raised.Given as goal
 
 -- one section's

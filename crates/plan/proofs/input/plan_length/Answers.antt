@@ -1,6 +1,5 @@
 -- `plan_length` meets its contract: a byte is below 256, so the sum fits; an empty input has a plan of no bytes.
 use native.Mathlib.Omega.{arith}
-use borrow.Author.Rules.{rules}
 use Rattle.plan.proofs.input.plan_length.Goals as goal
 
 pub overflow_cast-whole : goal.overflow_cast-whole

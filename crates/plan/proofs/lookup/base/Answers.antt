@@ -1,6 +1,5 @@
 -- `base` meets its contract: the entry of a thread, and 0 past the last one.
 use mathlib.Core.Path.{sym}
-use borrow.Author.Rules.{rules}
 use lib.ListN.{get_or}
 use Rattle.model.proofs.Loops.{listed, unlisted}
 use Rattle.plan.proofs.lookup.base.Goals as goal

@@ -1,6 +1,5 @@
 -- `may_take` meets its contract: the bit of the thread's entry, and of 0 past the last one.
 use mathlib.Core.Path.{sym}
-use borrow.Author.Rules.{rules}
 use lib.ListN.{get_or}
 use Rattle.plan.proofs.Bits.{no_bits}
 use Rattle.model.proofs.Loops.{listed, unlisted}

@@ -1,6 +1,5 @@
 -- `needs_bit` meets its contract: shifting right by s divides by 2 ^ s.
 use mathlib.Core.Path.{refl}
-use borrow.Author.Rules.{rules}
 use Rattle.model.specs.Plan.{bit}
 use Rattle.plan.proofs.lookup.needs_bit.Goals as goal
 

@@ -1,13 +1,8 @@
 -- `all_priorities` meets its contract: a loop that asks whether all pass, without an early end.
-use mathlib.Core.Path.{sym, ◌∙◌}
-use mathlib.Core.Logic.{⊎_elim}
-use Prim.Native.Nat.{ℕ, ◌-◌, ◌≤◌}
-use native.Mathlib.Omega.{arith}
-use borrow.Author.Rules.{rules}
-use borrow.Author.Tests.{not-true, not-false}
+use Prim.Native.Nat.{◌-◌, ◌≤◌}
 use lib.ListN.{get_or}
 use Rattle.plan.specs.Bytes.{is_priority}
-use Rattle.model.proofs.Loops.{AllPass, all_begin, pass_kept, pass_lost, all_asked}
+use Rattle.model.proofs.Loops.{AllPass}
 use Rattle.plan.proofs.questions.all_priorities.Given as goal
 
 abbrev pub invariant-loop-t : goal.invariant-loop-t

@@ -1,12 +1,10 @@
 -- `bases_pass` meets its contract: a loop that asks whether all pass.
 use mathlib.Core.Path.{sym, ◌∙◌}
-use Prim.Native.Nat.{◌-◌, ◌≤◌}
 use native.Mathlib.Omega.{arith}
-use borrow.Author.Rules.{rules}
 use borrow.Author.Tests.{not-true, not-false}
 use lib.ListN.{get_or}
 use Rattle.plan.specs.Bytes.{is_priority}
-use Rattle.model.proofs.Loops.{AllLeft, all_begin, passed, failed, all_passed}
+use Rattle.model.proofs.Loops.{all_begin, passed, failed, all_passed}
 use Rattle.plan.proofs.questions.bases_pass.Goals as goal
 
 pub loop-t-init : goal.loop-t-init

@@ -1,5 +1,4 @@
 -- `in_range` meets its contract: the tests are asked in the definition's order.
-use borrow.Author.Rules.{rules}
 use Rattle.plan.proofs.questions.in_range.Goals as goal
 
 pub returns-then-between : goal.returns-then-between

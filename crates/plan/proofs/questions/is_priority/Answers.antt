@@ -1,5 +1,4 @@
 -- `is_priority` meets its contract: 1 to 64, both counted in.
-use borrow.Author.Rules.{rules}
 use Rattle.plan.proofs.questions.is_priority.Goals as goal
 
 pub returns : goal.returns

@@ -1,12 +1,8 @@
 -- `needs_pass` meets its contract: a loop that asks whether all pass.
-use mathlib.Core.Path.{sym, ◌∙◌}
 use Prim.Native.Nat.{◌-◌, ◌≤◌}
-use native.Mathlib.Omega.{arith}
-use borrow.Author.Rules.{rules}
-use borrow.Author.Tests.{not-true, not-false}
 use lib.ListN.{get_or}
 use Rattle.plan.specs.Bytes.{needs_within}
-use Rattle.model.proofs.Loops.{AllLeft, all_begin, passed, failed, all_passed}
+use Rattle.model.proofs.Loops.{AllLeft}
 use Rattle.plan.proofs.questions.needs_pass.Given as goal
 
 abbrev pub invariant-loop-t : goal.invariant-loop-t

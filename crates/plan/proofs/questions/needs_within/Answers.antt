@@ -1,5 +1,4 @@
 -- `needs_within` meets its contract: a shift by S leaves the bits at S and above.
-use borrow.Author.Rules.{rules}
 use Rattle.plan.proofs.Bits.{shifted_out}
 use Rattle.plan.proofs.questions.needs_within.Goals as goal
 

@@ -1,11 +1,9 @@
 -- `passes` meets its contract: the counts, then the bases, then the needs, as `valid_view` splits the definition. Where all sixteen entries pass, so do
 -- those in use.
 use mathlib.Core.Path.{◌≡◌, sym, ◌∙◌}
-use mathlib.Core.Logic.{⊎_elim}
 use mathlib.Core.Bool.{true}
 use Prim.Native.Nat.{◌≤◌}
 use native.Mathlib.Omega.{arith}
-use borrow.Author.Rules.{rules}
 use borrow.Author.Tests.{not-true, not-false}
 use lib.ListN.{get_or}
 use Rattle.model.specs.Searches.{all}

@@ -1,7 +1,6 @@
 -- `word_at` meets its contract: two bytes fit sixteen bits.
 use Prim.Native.Nat.{◌+◌}
 use native.Mathlib.Omega.{arith}
-use borrow.Author.Rules.{rules}
 use Rattle.plan.proofs.words.word_at.Goals as goal
 
 pub overflow_cast-low : goal.overflow_cast-low

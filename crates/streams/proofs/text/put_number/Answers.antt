@@ -2,7 +2,6 @@
 use mathlib.Core.Path.{ap, ◌∙◌}
 use mathlib.Core.List.{[], ◌∷◌, ◌++◌}
 use native.Mathlib.Omega.{arith}
-use borrow.Author.Rules.{rules}
 use lib.ListN.{take}
 use Rattle.streams.specs.Text.{decimal}
 use Rattle.streams.proofs.Fewest.{decimal_fewest, few_digits}
@@ -18,8 +17,7 @@ pub returns : goal.returns
 returns c =
     let p = c.put in
     let q = c.put-from in
-    let d = c.decimal-k in
-    (
+    let d = c.decimal-k in (
       omega (arith, p.ensures.0, q.ensures.0, d.ensures.in_bounds.1, few_digits c.args.n d.result c.ranges.n.fits d.ensures.len),
       joined (take c.args.at c.args.out.now) (32 ∷ []) (decimal c.args.n)
           (p.ensures.1 ∙ ap (λ l. take q.result q.new.out ++ l) (d.ensures.digits ∙ decimal_fewest c.args.n d.result d.ensures.len))

@@ -1,7 +1,7 @@
 -- `walk` meets its contract. The loop's invariant: no rule is broken yet, from the state and record reached the run goes on to where it ends, and the
 -- running place is that record's.
 -- Each way through the loop is one of the machine's answers.
-use mathlib.Core.Path.{◌≡◌, refl, ap, sym, subst, ◌∙◌}
+use mathlib.Core.Path.{refl, ap, sym, subst, ◌∙◌}
 use native.Mathlib.Omega.{arith}
 use Rattle.machine.specs.declared.reporting.Reporting.{Reporting}
 use Rattle.machine.specs.View.{view}
@@ -103,11 +103,11 @@ pub overflow_add-running : goal.overflow_add-running
 overflow_add-running c =
     record {
       fits = omega (
-          arith,
-          c.loop-i.invariant.2,
-          running_place_lem (record_count c.args.bytes.now) c.loop-i.i,
-          walk_within c.requires.0 (standing (goal.at.overflow_add-running c).At-loop-i) c.loop-i-test.true,
-          c.requires.0.whole.count
+        arith,
+        c.loop-i.invariant.2,
+        running_place_lem (record_count c.args.bytes.now) c.loop-i.i,
+        walk_within c.requires.0 (standing (goal.at.overflow_add-running c).At-loop-i) c.loop-i-test.true,
+        c.requires.0.whole.count,
       );
     }
 

@@ -1,12 +1,10 @@
 -- `Timers::armed` meets its contract: the stored expiry and period are the slot, and the arming is complete.
 use mathlib.Core.Path.{◌≡◌, ap, sym, ◌∙◌}
-use mathlib.Core.Logic.{⊎_elim}
 use mathlib.Core.Bool.{cond}
 use mathlib.Core.List.{List}
 use mathlib.Core.Option.{Option}
 use Prim.Native.Nat.{ℕ}
 use native.Mathlib.Omega.{arith}
-use borrow.Author.Rules.{rules}
 use lib.ListN.{length, set}
 use lib.Seq.{get_or-set_same, get_or-set_other}
 use Rattle.model.specs.Records.{Period}
@@ -61,6 +59,9 @@ returns c =
     let a = c.args in
     let t = a.self in
     let to = set_timer (Period a.period) a.now.0 (view t) in
-    elim c.if-admitted.branch [ then-admitted w ↦ alike w.a-is w.expiries-is w.periods-is
-    ∙ stored t a.now.0 a.period c.requires.0 w.first_expiry.result (expiries_size t c.well_formed.0) (periods_size t c.well_formed.0) w.first_expiry.ensures
-    ∙ sym (ap (λ b. cond b to (view t)) w.if-admitted.true) | else-admitted w ↦ alike w.a-is w.expiries-is w.periods-is ∙ sym (ap (λ b. cond b to (view t)) w.if-admitted.false) ]
+    elim c.if-admitted.branch [
+      | then-admitted w ↦ alike w.a-is w.expiries-is w.periods-is
+          ∙ stored t a.now.0 a.period c.requires.0 w.first_expiry.result (expiries_size t c.well_formed.0) (periods_size t c.well_formed.0) w.first_expiry.ensures
+          ∙ sym (ap (λ b. cond b to (view t)) w.if-admitted.true)
+      | else-admitted w ↦ alike w.a-is w.expiries-is w.periods-is ∙ sym (ap (λ b. cond b to (view t)) w.if-admitted.false)
+    ]

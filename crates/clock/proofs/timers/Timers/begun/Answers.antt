@@ -1,6 +1,5 @@
 -- `Timers::begun` meets its contract: an admitted Arm stores the stage and the timer.
 use mathlib.Core.Path.{ap, sym, ◌∙◌}
-use mathlib.Core.Logic.{⊎_elim}
 use mathlib.Core.Bool.{cond}
 use Rattle.model.specs.Timers.{after_arm, set_arming}
 use Rattle.clock.specs.declared.timers.Arming.{Arming}

@@ -1,6 +1,5 @@
 -- `Timers::lost` meets its contract: after Start the start given is the one that is kept.
 use mathlib.Core.Path.{ap, sym, ◌∙◌}
-use borrow.Author.Rules.{rules}
 use Rattle.model.specs.Timers as model
 use Rattle.model.specs.Timers.{lost, start_given}
 use Rattle.clock.proofs.Stages.{after_start_lem}

@@ -1,20 +1,17 @@
 -- `Timers::moved_on_lem` meets its contract: after i turns the timers before i have moved on, and the others are as they were.
-use mathlib.Core.Path.{◌≡◌, refl, ap, sym, ◌∙◌, subst}
-use mathlib.Core.Logic.{◌⊎◌, inl, inr, ◌≢◌, ⊎_elim}
+use mathlib.Core.Path.{◌≡◌, refl, ap, sym, ◌∙◌}
+use mathlib.Core.Logic.{◌⊎◌, inl, inr, ◌≢◌}
 use mathlib.Core.List.{List}
-use mathlib.Core.Option.{Option}
 use Prim.Native.Nat.{ℕ, ◌+◌, ◌-◌, ◌≤◌, ◌<◌}
 use native.Mathlib.Omega.{arith}
-use borrow.Author.Rules.{rules}
 use borrow.Author.Tests.{eq-eqb, ne_eqb}
 use lib.ListN.{length, get_or, set, length-set}
-use Rattle.model.specs.Timers.{Timer, timer, again, moved_on, move_on}
+use Rattle.model.specs.Timers.{timer, again, moved_on, move_on}
 use Rattle.model.proofs.Tests.{equal?}
 use Rattle.model.proofs.Loops.{listed_alike}
 use Rattle.clock.specs.declared.time.Tick.{Tick}
 use Rattle.clock.specs.declared.timers.Timers.{Timers}
 use Rattle.clock.specs.View.{number_at, slot_of, slot_in, view}
-use Rattle.clock.proofs.Sized.{expiries_size}
 use Rattle.clock.proofs.Slots.{slots_of, not_armed, is_armed_lem, number_same, number_other}
 use Rattle.clock.proofs.timers.Timers.moved_on.Given as goal
 

@@ -1,20 +1,11 @@
 -- `Timers::soonest` meets its contract: after i turns the answer is the least of the number kept and of the expiries of the timers from i on.
-use mathlib.Core.Path.{◌≡◌, ap, ◌∙◌}
-use mathlib.Core.Logic.{◌⊎◌, inl, inr, ◌≢◌, ⊎_elim}
-use mathlib.Core.List.{List, ◌∷◌, map}
-use mathlib.Core.Option.{Option}
-use Prim.Native.Nat.{ℕ, ◌+◌, ◌-◌, min, ◌≤◌, ◌<◌}
+use mathlib.Core.Path.{ap}
+use mathlib.Core.Logic.{inl, inr}
+use Prim.Native.Nat.{ℕ, ◌<◌}
 use native.Mathlib.Omega.{arith}
-use borrow.Author.Rules.{rules}
 use borrow.Author.Tests.{ltb-true, ltb-false}
-use lib.ListN.{get_or}
-use Rattle.model.specs.Timers.{Timer}
-use Rattle.model.specs.Formed.{last_wake}
-use Rattle.model.proofs.Loops.{left, begin, turn, done}
 use Rattle.clock.specs.declared.time.Tick.{Tick}
-use Rattle.clock.specs.View.{number_at, slot_of}
-use Rattle.clock.specs.Clauses.{soonest}
-use Rattle.clock.proofs.Slots.{slots_of, not_armed, is_armed_lem, soonest_last}
+use Rattle.clock.specs.View.{number_at}
 use Rattle.clock.proofs.timers.Timers.soonest.Invariants.{none_seen, all_seen, sooner, no_sooner}
 use Rattle.clock.proofs.timers.Timers.soonest.Goals as goal
 use Rattle.clock.proofs.timers.Timers.soonest.Goals.{At-loop-i, else-expiry-ne0, else-expiry-ne0-via-else-expiry-ne0, else-expiry-ne0-via-then-expiry-ne0+else-expiry-first, then-expiry-ne0+then-expiry-first}

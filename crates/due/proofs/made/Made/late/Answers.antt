@@ -1,10 +1,8 @@
 -- `Made::late` meets its contract: the first of the two is in use, and its count has two bytes.
 use mathlib.Core.Path.{◌≡◌, ap}
-use mathlib.Core.Logic.{⊎_elim}
 use mathlib.Core.List.{[], ◌∷◌}
 use Prim.Native.Nat.{min}
 use native.Mathlib.Omega.{arith}
-use borrow.Author.Rules.{rules}
 use Rattle.model.specs.Records.{Late}
 use Rattle.due.proofs.made.Made.late.Goals as goal
 use Rattle.due.proofs.made.Made.late.Goals.{Joined-count-lt65535, else-count-lt65535, then-count-lt65535}

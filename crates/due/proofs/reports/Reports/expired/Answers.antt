@@ -1,22 +1,15 @@
 -- `Reports::expired` meets its contract: after i turns the timers below i whose tick number this is and that are owed none are listed.
 use mathlib.Core.Path.{◌≡◌, ap, sym, ◌∙◌}
-use mathlib.Core.Logic.{⊎_elim}
-use mathlib.Core.Bool.{Bool, true, false, not, ◌&&◌}
-use mathlib.Core.List.{List, [], ◌∷◌, ◌++◌}
-use Prim.Native.Nat.{ℕ, ◌-◌, ◌+◌, ◌≤◌}
+use mathlib.Core.Bool.{true, false, not}
+use mathlib.Core.List.{[], ◌∷◌, ◌++◌}
+use Prim.Native.Nat.{◌+◌}
 use native.Mathlib.Omega.{arith}
-use borrow.Author.Rules.{rules}
-use lib.ListN.{length, drop, length-append}
+use lib.ListN.{length, length-append}
 use Rattle.model.specs.Searches.{filter, up_to}
 use Rattle.model.specs.Records.{timer_count}
-use Rattle.model.specs.Timers.{slot, expires_at, owes_expire}
 use Rattle.model.proofs.Loops.{up_to_more}
 use Rattle.lists.specs.Lists.{queued}
 use Rattle.lists.proofs.Laws.{length-queued, filter-kept, filter_dropped}
-use Rattle.clock.specs.declared.timers.Timers.{Timers}
-use Rattle.clock.specs.View.{view}
-use Rattle.due.specs.declared.reports.Reports.{Reports}
-use Rattle.due.specs.Lists.{owed}
 use Rattle.due.proofs.reports.Reports.expired.Invariants.{ends}
 use Rattle.due.proofs.reports.Reports.expired.Goals as goal
 use Rattle.due.proofs.reports.Reports.expired.Goals.{After-expires, At-loop-i, In-loop-i, else-expires, else-expires-via-else-expires, else-expires-via-then-expires+else-not-owes_expire, then-expires+then-not-owes_expire}
@@ -42,11 +35,14 @@ loop-i-preserved c =
     let v = c.loop-i.invariant in
     let h = c.loop-i-test.true in
     let f = ends a.self a.given a.timers a.number.0 in
-    elim c.if-expires.branch [ then-expires+then-not-owes_expire w ↦ let q : f c.loop-i.i ≡ true = rw (sym c.expires.ensures ∙ w.if-expires.true, ap not (sym w.owes_expire.ensures) ∙ w.if-not-owes_expire.true-raw) in
-    let n : w.push-out.result.count ≡ c.loop-i.out.count + 1 = sym (length-queued w.push-out.result) ∙ ap length w.push-out.ensures ∙ length-append (queued c.loop-i.out) (c.loop-i.i ∷ []) ∙ ap (λ m. m + 1) (length-queued c.loop-i.out) in
-    rw w.out-is (omega (arith, n, v.0), omega (arith, h), w.push-out.ensures ∙ ap (λ l. l ++ (c.loop-i.i ∷ [])) v.2 ∙ sym (ap (filter f) (up_to_more c.loop-i.i) ∙ filter-kept f (up_to c.loop-i.i) c.loop-i.i q)) | else-expires w ↦ let q : f c.loop-i.i ≡ false =
-    elim w.else-expires.branch [ else-expires-via-then-expires+else-not-owes_expire u ↦ rw (sym c.expires.ensures ∙ u.if-expires.true, ap not (sym u.owes_expire.ensures) ∙ u.if-not-owes_expire.false-raw) | else-expires-via-else-expires u ↦ rw (sym c.expires.ensures ∙ u.if-expires.false) ] in
-    rw w.out-is (omega (arith, v.0), omega (arith, h), v.2 ∙ sym (ap (filter f) (up_to_more c.loop-i.i) ∙ filter_dropped f (up_to c.loop-i.i) c.loop-i.i q)) ]
+    elim c.if-expires.branch [
+      | then-expires+then-not-owes_expire w ↦ let q : f c.loop-i.i ≡ true = rw (sym c.expires.ensures ∙ w.if-expires.true, ap not (sym w.owes_expire.ensures) ∙ w.if-not-owes_expire.true-raw) in
+          let n : w.push-out.result.count ≡ c.loop-i.out.count + 1 = sym (length-queued w.push-out.result) ∙ ap length w.push-out.ensures ∙ length-append (queued c.loop-i.out) (c.loop-i.i ∷ []) ∙ ap (λ m. m + 1) (length-queued c.loop-i.out) in
+          rw w.out-is (omega (arith, n, v.0), omega (arith, h), w.push-out.ensures ∙ ap (λ l. l ++ (c.loop-i.i ∷ [])) v.2 ∙ sym (ap (filter f) (up_to_more c.loop-i.i) ∙ filter-kept f (up_to c.loop-i.i) c.loop-i.i q))
+      | else-expires w ↦ let q : f c.loop-i.i ≡ false =
+          elim w.else-expires.branch [ else-expires-via-then-expires+else-not-owes_expire u ↦ rw (sym c.expires.ensures ∙ u.if-expires.true, ap not (sym u.owes_expire.ensures) ∙ u.if-not-owes_expire.false-raw) | else-expires-via-else-expires u ↦ rw (sym c.expires.ensures ∙ u.if-expires.false) ] in
+          rw w.out-is (omega (arith, v.0), omega (arith, h), v.2 ∙ sym (ap (filter f) (up_to_more c.loop-i.i) ∙ filter_dropped f (up_to c.loop-i.i) c.loop-i.i q))
+    ]
 
 pub returns : goal.returns
 returns c =

@@ -1,18 +1,12 @@
 -- `Reports::expired` meets its contract: after i turns the timers below i whose tick number this is and that are owed none are listed.
-use mathlib.Core.Path.{◌≡◌, ap, sym, ◌∙◌}
-use mathlib.Core.Logic.{⊎_elim}
-use mathlib.Core.Bool.{Bool, true, false, not, ◌&&◌}
-use mathlib.Core.List.{List, [], ◌∷◌, ◌++◌}
-use Prim.Native.Nat.{ℕ, ◌-◌, ◌+◌, ◌≤◌}
-use native.Mathlib.Omega.{arith}
-use borrow.Author.Rules.{rules}
-use lib.ListN.{length, drop, length-append}
+use mathlib.Core.Path.{◌≡◌}
+use mathlib.Core.Bool.{Bool, not, ◌&&◌}
+use mathlib.Core.List.{List}
+use Prim.Native.Nat.{ℕ, ◌-◌, ◌≤◌}
+use lib.ListN.{drop}
 use Rattle.model.specs.Searches.{filter, up_to}
-use Rattle.model.specs.Records.{timer_count}
 use Rattle.model.specs.Timers.{slot, expires_at, owes_expire}
-use Rattle.model.proofs.Loops.{up_to_more}
 use Rattle.lists.specs.Lists.{queued}
-use Rattle.lists.proofs.Laws.{length-queued, filter-kept, filter_dropped}
 use Rattle.clock.specs.declared.timers.Timers.{Timers}
 use Rattle.clock.specs.View.{view}
 use Rattle.due.specs.declared.reports.Reports.{Reports}

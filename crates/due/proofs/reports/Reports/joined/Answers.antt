@@ -1,14 +1,13 @@
 -- `Reports::joined` meets its contract: those stored so far, and the reports of those left, are all.
-use mathlib.Core.Path.{◌≡◌, refl, ap, sym, ◌∙◌}
+use mathlib.Core.Path.{refl, ap, sym, ◌∙◌}
 use mathlib.Core.List.{◌∷◌, [], ◌++◌, map, append-nil, append_assoc}
-use Prim.Native.Nat.{◌+◌, ◌≤◌, ◌%◌, ◌/◌, ◌-◌}
+use Prim.Native.Nat.{◌%◌, ◌/◌, ◌-◌}
 use native.Mathlib.Omega.{arith}
-use borrow.Author.Rules.{rules}
-use lib.ListN.{length, length-set}
+use lib.ListN.{length-set}
 use Rattle.model.proofs.Loops.{stored_next}
 use Rattle.lists.specs.Words.{nibbles}
 use Rattle.lists.proofs.Laws.{first, ended}
-use Rattle.due.specs.Lists.{report_room, report_of, no_report, report_by, owed}
+use Rattle.due.specs.Lists.{report_of, no_report, report_by, owed}
 use Rattle.due.proofs.Sized.{reports_size}
 use Rattle.due.proofs.reports.Reports.joined.Goals as goal
 use Rattle.due.proofs.reports.Reports.joined.Goals.{In-loop-left, Start}

@@ -1,15 +1,10 @@
 -- `Reports::joined` meets its contract: those stored so far, and the reports of those left, are all.
-use mathlib.Core.Path.{◌≡◌, refl, ap, sym, ◌∙◌}
-use mathlib.Core.List.{◌∷◌, [], ◌++◌, map, append-nil, append_assoc}
-use Prim.Native.Nat.{◌+◌, ◌≤◌, ◌%◌, ◌/◌, ◌-◌}
-use native.Mathlib.Omega.{arith}
-use borrow.Author.Rules.{rules}
-use lib.ListN.{length, length-set}
-use Rattle.model.proofs.Loops.{stored_next}
+use mathlib.Core.Path.{◌≡◌}
+use mathlib.Core.List.{◌++◌, map}
+use Prim.Native.Nat.{◌+◌, ◌≤◌}
+use lib.ListN.{length}
 use Rattle.lists.specs.Words.{nibbles}
-use Rattle.lists.proofs.Laws.{first, ended}
-use Rattle.due.specs.Lists.{report_room, report_of, no_report, report_by, owed}
-use Rattle.due.proofs.Sized.{reports_size}
+use Rattle.due.specs.Lists.{report_room, report_by, owed}
 use Rattle.due.proofs.reports.Reports.joined.Given as goal
 
 abbrev pub invariant-loop-left : goal.invariant-loop-left

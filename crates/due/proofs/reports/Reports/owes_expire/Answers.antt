@@ -1,20 +1,11 @@
 -- `Reports::owes_expire` meets its contract: whether one of those left is such an Expire is whether one of all that are due is.
-use mathlib.Core.Path.{◌≡◌, refl, ap, sym, ◌∙◌}
-use mathlib.Core.Logic.{⊎_elim}
-use mathlib.Core.Bool.{Bool, true, false, ◌||◌, ◌&&◌}
-use mathlib.Core.List.{List}
-use Prim.Native.Nat.{ℕ, ◌+◌, ◌-◌, ◌≤◌, ◌<◌}
+use mathlib.Core.Path.{◌≡◌, refl, sym, ◌∙◌}
+use mathlib.Core.Bool.{true, false, ◌&&◌}
+use Prim.Native.Nat.{◌<◌}
 use native.Mathlib.Omega.{arith}
-use borrow.Author.Rules.{rules}
 use borrow.Author.Tests.{eq-eqb, ne_eqb}
 use lib.Dec.{eqb}
-use lib.ListN.{drop, get_or}
-use Rattle.model.specs.Searches.{any}
-use Rattle.model.specs.Records.{is_expire}
-use Rattle.due.specs.declared.reports.Report.{Report}
-use Rattle.due.specs.Lists.{report_room, no_report, owed}
-use Rattle.due.proofs.ReportKinds.{expire_is}
-use Rattle.due.proofs.Places.{none_due, next_due}
+use Rattle.due.specs.Lists.{report_room}
 use Rattle.due.proofs.reports.Reports.owes_expire.Invariants.{entry, left, done}
 use Rattle.due.proofs.reports.Reports.owes_expire.Goals as goal
 use Rattle.due.proofs.reports.Reports.owes_expire.Goals.{At-loop-i, In-loop-i, Then-r-eq21, else-r-eq21-via-else-r-eq21, else-r-eq21-via-then-r-eq21+else-r-timer}

@@ -1,18 +1,14 @@
 -- `Reports::owes_expire` meets its contract: whether one of those left is such an Expire is whether one of all that are due is.
-use mathlib.Core.Path.{◌≡◌, refl, ap, sym, ◌∙◌}
-use mathlib.Core.Logic.{⊎_elim}
-use mathlib.Core.Bool.{Bool, true, false, ◌||◌, ◌&&◌}
+use mathlib.Core.Path.{◌≡◌, ap, sym, ◌∙◌}
+use mathlib.Core.Bool.{Bool, false, ◌||◌, ◌&&◌}
 use mathlib.Core.List.{List}
 use Prim.Native.Nat.{ℕ, ◌+◌, ◌-◌, ◌≤◌, ◌<◌}
-use native.Mathlib.Omega.{arith}
-use borrow.Author.Rules.{rules}
-use borrow.Author.Tests.{eq-eqb, ne_eqb}
 use lib.Dec.{eqb}
 use lib.ListN.{drop, get_or}
 use Rattle.model.specs.Searches.{any}
 use Rattle.model.specs.Records.{is_expire}
 use Rattle.due.specs.declared.reports.Report.{Report}
-use Rattle.due.specs.Lists.{report_room, no_report, owed}
+use Rattle.due.specs.Lists.{no_report, owed}
 use Rattle.due.proofs.ReportKinds.{expire_is}
 use Rattle.due.proofs.Places.{none_due, next_due}
 use Rattle.due.proofs.reports.Reports.owes_expire.Given as goal

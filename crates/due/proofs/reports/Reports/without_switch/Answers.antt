@@ -1,22 +1,10 @@
 -- `Reports::without_switch` meets its contract: those stored so far, and those left but a Switch, are all that are due but a Switch.
-use mathlib.Core.Path.{◌≡◌, refl, ap, sym, ◌∙◌}
-use mathlib.Core.Logic.{⊎_elim, ◌≢◌}
-use mathlib.Core.Bool.{cond, not}
-use mathlib.Core.List.{List, [], ◌∷◌, ◌++◌, append-nil, append_assoc}
-use Prim.Native.Nat.{ℕ, ◌+◌, ◌-◌, ◌≤◌, ◌<◌}
+use mathlib.Core.Path.{refl, ap, sym, ◌∙◌}
+use mathlib.Core.List.{◌++◌, append-nil}
+use Prim.Native.Nat.{◌<◌}
 use native.Mathlib.Omega.{arith}
-use borrow.Author.Rules.{rules}
-use borrow.Author.Tests.{eq-eqb, ne_eqb}
-use lib.Dec.{eqb}
-use lib.ListN.{length, drop, get_or, set, length-set, length-replicate}
-use Rattle.model.specs.Records as records
-use Rattle.model.specs.State.{without_switch}
-use Rattle.model.proofs.Loops.{stored_next}
-use Rattle.due.specs.declared.reports.Report.{Report}
-use Rattle.due.specs.declared.reports.Reports.{Reports}
-use Rattle.due.specs.Lists.{report_room, report_of, no_report, owed}
-use Rattle.due.proofs.ReportKinds.{switch_is}
-use Rattle.due.proofs.Places.{none_due, next_due}
+use lib.ListN.{length-set, length-replicate}
+use Rattle.due.specs.Lists.{report_room, owed}
 use Rattle.due.proofs.reports.Reports.without_switch.Invariants.{entry, done, stored, skipped}
 use Rattle.due.proofs.reports.Reports.without_switch.Goals as goal
 use Rattle.due.proofs.reports.Reports.without_switch.Goals.{At-loop-i, In-loop-i, Then-r-ne17, else-r-ne17, then-r-ne17}

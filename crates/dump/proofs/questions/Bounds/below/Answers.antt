@@ -3,7 +3,6 @@ use mathlib.Core.Path.{◌≡◌, ap}
 use mathlib.Core.Bool.{false}
 use Prim.Native.Nat.{ℕ, min}
 use native.Mathlib.Omega.{arith}
-use borrow.Author.Rules.{rules}
 use Rattle.dump.specs.declared.questions.Bounds.{Bounds}
 use Rattle.dump.specs.Operands.{below}
 use Rattle.dump.proofs.questions.Bounds.below.Goals as goal

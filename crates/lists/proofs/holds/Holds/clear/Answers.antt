@@ -1,15 +1,10 @@
 -- `Holds::clear` meets its contract: whether any hold of another that is left bars the base is whether any does.
 use mathlib.Core.Path.{refl, sym, ◌∙◌}
-use mathlib.Core.Bool.{Bool, not, ◌&&◌}
-use mathlib.Core.List.{List}
-use Prim.Native.Nat.{ℕ}
 use native.Mathlib.Omega.{arith}
-use borrow.Author.Rules.{rules}
 use borrow.Author.Tests.{lt-ltb, le-ltb, eq-eqb, ne_eqb}
-use lib.Dec.{eqb, ltb}
-use Rattle.model.specs.State as state
-use Rattle.lists.specs.Lists.{held_in, held, ceiling_in}
-use Rattle.lists.proofs.Holdings.{first_hold, AnyLeft, missed, found, none_found, filter_none}
+use lib.Dec.{ltb}
+use Rattle.lists.specs.Lists.{held, ceiling_in}
+use Rattle.lists.proofs.Holdings.{first_hold, missed, found, none_found, filter_none}
 use Rattle.lists.proofs.holds.Holds.clear.Invariants.{bars_other, of_other}
 use Rattle.lists.proofs.holds.Holds.clear.Goals as goal
 use Rattle.lists.proofs.holds.Holds.clear.Goals.{At-loop-left}

@@ -1,11 +1,10 @@
 -- `Holds::free` meets its contract: whether any hold that is left is the thread's is whether any is, whatever the sections.
 use mathlib.Core.Path.{refl}
-use Prim.Native.Nat.{ℕ, ◌/◌}
+use Prim.Native.Nat.{◌/◌}
 use native.Mathlib.Omega.{arith}
-use borrow.Author.Rules.{rules}
 use borrow.Author.Tests.{eq-eqb, ne_eqb}
 use Rattle.lists.specs.Lists.{held_in, held}
-use Rattle.lists.proofs.Holdings.{is_of_thread, AnyLeft, missed, found, none_found}
+use Rattle.lists.proofs.Holdings.{is_of_thread, missed, found, none_found}
 use Rattle.lists.proofs.holds.Holds.free.Goals as goal
 use Rattle.lists.proofs.holds.Holds.free.Goals.{At-loop-left}
 

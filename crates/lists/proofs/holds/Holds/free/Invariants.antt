@@ -1,11 +1,7 @@
 -- `Holds::free` meets its contract: whether any hold that is left is the thread's is whether any is, whatever the sections.
-use mathlib.Core.Path.{refl}
-use Prim.Native.Nat.{ℕ, ◌/◌}
-use native.Mathlib.Omega.{arith}
-use borrow.Author.Rules.{rules}
-use borrow.Author.Tests.{eq-eqb, ne_eqb}
-use Rattle.lists.specs.Lists.{held_in, held}
-use Rattle.lists.proofs.Holdings.{is_of_thread, AnyLeft, missed, found, none_found}
+use Prim.Native.Nat.{ℕ}
+use Rattle.lists.specs.Lists.{held_in}
+use Rattle.lists.proofs.Holdings.{is_of_thread, AnyLeft}
 use Rattle.lists.proofs.holds.Holds.free.Given as goal
 
 abbrev pub invariant-loop-left : goal.invariant-loop-left

@@ -1,15 +1,11 @@
 -- `Holds::in_range` meets its contract: whether any hold that is left is out of range is whether any is.
 use mathlib.Core.Path.{refl, sym, ◌∙◌}
-use mathlib.Core.Logic.{⊎_elim}
-use mathlib.Core.Bool.{Bool, not}
-use Prim.Native.Nat.{ℕ, ◌%◌}
+use Prim.Native.Nat.{◌%◌}
 use native.Mathlib.Omega.{arith}
-use borrow.Author.Rules.{rules}
 use borrow.Author.Tests.{leb-true, leb-false, lt-ltb, le-ltb}
-use Rattle.model.specs.State as state
 use Rattle.model.specs.Formed.{hold_in_range}
-use Rattle.lists.specs.Lists.{held_in, held}
-use Rattle.lists.proofs.Holdings.{AnyLeft, missed, found, none_found, all_none}
+use Rattle.lists.specs.Lists.{held}
+use Rattle.lists.proofs.Holdings.{missed, found, none_found, all_none}
 use Rattle.lists.proofs.holds.Holds.in_range.Invariants.{is_out}
 use Rattle.lists.proofs.holds.Holds.in_range.Goals as goal
 use Rattle.lists.proofs.holds.Holds.in_range.Goals.{At-loop-left, then-sections-s-via-else-sections-s+then-threads-t, then-sections-s-via-then-sections-s}

@@ -1,15 +1,10 @@
 -- `Holds::in_range` meets its contract: whether any hold that is left is out of range is whether any is.
-use mathlib.Core.Path.{refl, sym, ◌∙◌}
-use mathlib.Core.Logic.{⊎_elim}
 use mathlib.Core.Bool.{Bool, not}
-use Prim.Native.Nat.{ℕ, ◌%◌}
-use native.Mathlib.Omega.{arith}
-use borrow.Author.Rules.{rules}
-use borrow.Author.Tests.{leb-true, leb-false, lt-ltb, le-ltb}
+use Prim.Native.Nat.{ℕ}
 use Rattle.model.specs.State as state
 use Rattle.model.specs.Formed.{hold_in_range}
-use Rattle.lists.specs.Lists.{held_in, held}
-use Rattle.lists.proofs.Holdings.{AnyLeft, missed, found, none_found, all_none}
+use Rattle.lists.specs.Lists.{held_in}
+use Rattle.lists.proofs.Holdings.{AnyLeft}
 use Rattle.lists.proofs.holds.Holds.in_range.Given as goal
 
 abbrev pub is_out : (threads sections : ℕ) → state.Hold → Bool

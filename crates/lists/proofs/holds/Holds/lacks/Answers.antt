@@ -1,12 +1,10 @@
 -- `Holds::lacks` meets its contract: whether any hold that is left is the one asked for is whether any is.
 use mathlib.Core.Path.{refl}
-use mathlib.Core.Logic.{⊎_elim}
 use native.Mathlib.Omega.{arith}
-use borrow.Author.Rules.{rules}
 use borrow.Author.Tests.{eq-eqb, ne_eqb}
 use Rattle.model.specs.State.{is_hold}
-use Rattle.lists.specs.Lists.{held_in, held}
-use Rattle.lists.proofs.Holdings.{AnyLeft, missed, found, none_found}
+use Rattle.lists.specs.Lists.{held}
+use Rattle.lists.proofs.Holdings.{missed, found, none_found}
 use Rattle.lists.proofs.holds.Holds.lacks.Goals as goal
 use Rattle.lists.proofs.holds.Holds.lacks.Goals.{At-loop-left, else-s-section-via-else-s-section, else-s-section-via-then-s-section+else-holder-thread}
 

@@ -1,12 +1,7 @@
 -- `Holds::lacks` meets its contract: whether any hold that is left is the one asked for is whether any is.
-use mathlib.Core.Path.{refl}
-use mathlib.Core.Logic.{⊎_elim}
-use native.Mathlib.Omega.{arith}
-use borrow.Author.Rules.{rules}
-use borrow.Author.Tests.{eq-eqb, ne_eqb}
 use Rattle.model.specs.State.{is_hold}
-use Rattle.lists.specs.Lists.{held_in, held}
-use Rattle.lists.proofs.Holdings.{AnyLeft, missed, found, none_found}
+use Rattle.lists.specs.Lists.{held_in}
+use Rattle.lists.proofs.Holdings.{AnyLeft}
 use Rattle.lists.proofs.holds.Holds.lacks.Given as goal
 
 abbrev pub invariant-loop-left : goal.invariant-loop-left

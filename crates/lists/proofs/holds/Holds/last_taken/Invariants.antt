@@ -1,13 +1,7 @@
 -- `Holds::last_taken` meets its contract: the section taken last among the holds that are left is the one taken last of all.
-use mathlib.Core.Path.{◌≡◌, refl, ap, sym, ◌∙◌}
-use mathlib.Core.List.{◌∷◌}
-use Prim.Native.Nat.{◌-◌, ◌/◌}
-use native.Mathlib.Omega.{arith}
-use borrow.Author.Rules.{rules}
-use borrow.Author.Tests.{eq-eqb, ne_eqb}
+use mathlib.Core.Path.{◌≡◌}
 use Rattle.model.specs.Rules.{last_taken}
-use Rattle.lists.specs.Lists.{numbered, held_in, held}
-use Rattle.lists.proofs.Holdings.{first_hold, turn, done}
+use Rattle.lists.specs.Lists.{held_in}
 use Rattle.lists.proofs.holds.Holds.last_taken.Given as goal
 
 abbrev pub invariant-loop-left : goal.invariant-loop-left

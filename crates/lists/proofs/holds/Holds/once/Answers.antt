@@ -5,9 +5,8 @@ use mathlib.Core.Bool.{Bool, true, false}
 use mathlib.Core.List.{List, ◌∷◌}
 use Prim.Native.Nat.{ℕ, ◌+◌, ◌-◌, ◌/◌, ◌%◌, ◌≤◌, ◌<◌}
 use native.Mathlib.Omega.{arith}
-use borrow.Author.Rules.{rules}
 use borrow.Author.Tests.{eq-eqb, ne_eqb, le-leb}
-use lib.Dec.{T, eqb, leb, leb→le, T_not}
+use lib.Dec.{T, leb, leb→le, T_not}
 use Rattle.model.specs.Searches.{all, up_to}
 use Rattle.model.specs.Formed.{times, held_once}
 use Rattle.model.proofs.Tests.{is_true, is_false, from_true, not_not, split, equal?}

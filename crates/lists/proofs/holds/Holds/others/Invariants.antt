@@ -1,15 +1,9 @@
 -- `Holds::others` meets its contract: the holds kept, and behind them those left that pass the test, are all that pass it.
-use mathlib.Core.Path.{◌≡◌, refl, ap, sym, ◌∙◌}
-use mathlib.Core.Logic.{⊎_elim}
-use mathlib.Core.Bool.{Bool, not}
+use mathlib.Core.Bool.{not}
 use Prim.Native.Nat.{◌+◌, ◌≤◌}
-use native.Mathlib.Omega.{arith}
-use borrow.Author.Rules.{rules}
-use borrow.Author.Tests.{eq-eqb, ne_eqb}
-use Rattle.model.specs.State as state
 use Rattle.model.specs.State.{is_hold}
-use Rattle.lists.specs.Lists.{held_in, held}
-use Rattle.lists.proofs.Holdings.{first_hold, KeptLeft, kept, dropped, all_kept}
+use Rattle.lists.specs.Lists.{held_in}
+use Rattle.lists.proofs.Holdings.{KeptLeft}
 use Rattle.lists.proofs.holds.Holds.others.Given as goal
 
 abbrev pub invariant-loop-left : goal.invariant-loop-left

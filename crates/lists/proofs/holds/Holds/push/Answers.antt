@@ -1,6 +1,5 @@
 -- `Holds::push` meets its contract: a number put in front of each word is a hold put in front of the list, and the owner is found by one comparison.
 use native.Mathlib.Omega.{arith}
-use borrow.Author.Rules.{rules}
 use Rattle.lists.proofs.Holdings.{hold_in_front}
 use Rattle.lists.proofs.holds.Holds.push.Goals as goal
 use Rattle.lists.proofs.holds.Holds.push.Goals.{After-in_front-threads}

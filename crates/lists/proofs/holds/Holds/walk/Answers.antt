@@ -1,11 +1,10 @@
 -- `Holds::walk` meets its contract: the owner among the holds passed, put before those that are left, gives the owner of all.
 use mathlib.Core.Path.{refl}
-use mathlib.Core.Logic.{inl, inr, ⊎_elim}
+use mathlib.Core.Logic.{inl, inr}
 use native.Mathlib.Omega.{arith}
-use borrow.Author.Rules.{rules}
 use borrow.Author.Tests.{ltb-true, ltb-false}
-use Rattle.lists.specs.Lists.{held_in, held, ceiling_in}
-use Rattle.lists.proofs.Holdings.{TopLeft, top_new, top_stays, top_found}
+use Rattle.lists.specs.Lists.{held, ceiling_in}
+use Rattle.lists.proofs.Holdings.{top_new, top_stays, top_found}
 use Rattle.lists.proofs.holds.Holds.walk.Goals as goal
 use Rattle.lists.proofs.holds.Holds.walk.Goals.{At-loop-left, then-owner-via-else-owner+then-top-c, then-owner-via-then-owner}
 

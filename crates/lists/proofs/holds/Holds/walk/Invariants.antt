@@ -1,11 +1,6 @@
 -- `Holds::walk` meets its contract: the owner among the holds passed, put before those that are left, gives the owner of all.
-use mathlib.Core.Path.{refl}
-use mathlib.Core.Logic.{inl, inr, ⊎_elim}
-use native.Mathlib.Omega.{arith}
-use borrow.Author.Rules.{rules}
-use borrow.Author.Tests.{ltb-true, ltb-false}
-use Rattle.lists.specs.Lists.{held_in, held, ceiling_in}
-use Rattle.lists.proofs.Holdings.{TopLeft, top_new, top_stays, top_found}
+use Rattle.lists.specs.Lists.{held_in, ceiling_in}
+use Rattle.lists.proofs.Holdings.{TopLeft}
 use Rattle.lists.proofs.holds.Holds.walk.Given as goal
 
 abbrev pub invariant-loop-left : goal.invariant-loop-left

@@ -1,11 +1,8 @@
 -- `Queue::below` meets its contract: whether all that are left pass is whether all pass.
-use mathlib.Core.Path.{◌≡◌, refl}
+use mathlib.Core.Path.{refl}
 use Prim.Native.Nat.{◌%◌}
 use native.Mathlib.Omega.{arith}
-use borrow.Author.Rules.{rules}
 use borrow.Author.Tests.{lt-ltb, le-ltb}
-use Rattle.model.specs.Formed.{are_threads}
-use Rattle.lists.specs.Words.{nibbles}
 use Rattle.lists.proofs.Queues.{first, ended}
 use Rattle.lists.proofs.queue.Queue.below.Goals as goal
 use Rattle.lists.proofs.queue.Queue.below.Goals.{At-loop-left}

@@ -1,14 +1,12 @@
 -- `Queue::chosen` meets its contract: the one kept so far, or the first of greatest current priority among those left if that is greater, is the one chosen.
 use mathlib.Core.Path.{◌≡◌, ap, sym, ◌∙◌}
-use mathlib.Core.Logic.{⊎_elim}
 use Prim.Native.Nat.{◌-◌, ◌/◌, ◌%◌, ◌<◌}
 use native.Mathlib.Omega.{arith}
-use borrow.Author.Rules.{rules}
 use borrow.Author.Tests.{ne_eqb}
 use Rattle.model.specs.Searches.{first_greatest}
 use Rattle.lists.specs.Words.{nibbles, entry_of}
-use Rattle.lists.specs.Lists.{numbered, current_in, queued}
-use Rattle.lists.proofs.Queues.{first, ended, overtaken, replaced, stayed, nobody, base_current}
+use Rattle.lists.specs.Lists.{current_in, queued}
+use Rattle.lists.proofs.Queues.{first, ended, replaced, stayed, nobody, base_current}
 use Rattle.lists.proofs.queue.Queue.chosen.Goals as goal
 use Rattle.lists.proofs.queue.Queue.chosen.Goals.{At-loop-left, Joined-owner-t, else-owner-lt16, else-owner-t, then-owner-lt16, then-owner-t}
 

@@ -1,14 +1,9 @@
 -- `Queue::chosen` meets its contract: the one kept so far, or the first of greatest current priority among those left if that is greater, is the one chosen.
-use mathlib.Core.Path.{◌≡◌, ap, sym, ◌∙◌}
-use mathlib.Core.Logic.{⊎_elim}
-use Prim.Native.Nat.{◌-◌, ◌/◌, ◌%◌, ◌<◌}
-use native.Mathlib.Omega.{arith}
-use borrow.Author.Rules.{rules}
-use borrow.Author.Tests.{ne_eqb}
+use mathlib.Core.Path.{◌≡◌}
 use Rattle.model.specs.Searches.{first_greatest}
 use Rattle.lists.specs.Words.{nibbles, entry_of}
-use Rattle.lists.specs.Lists.{numbered, current_in, queued}
-use Rattle.lists.proofs.Queues.{first, ended, overtaken, replaced, stayed, nobody, base_current}
+use Rattle.lists.specs.Lists.{numbered, current_in}
+use Rattle.lists.proofs.Queues.{overtaken}
 use Rattle.lists.proofs.queue.Queue.chosen.Given as goal
 
 abbrev pub invariant-loop-left : goal.invariant-loop-left

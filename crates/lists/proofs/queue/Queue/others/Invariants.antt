@@ -1,15 +1,9 @@
 -- `Queue::others` meets its contract: those kept so far, and those left that stay, are all that stay.
-use mathlib.Core.Path.{◌≡◌, refl, sym, ◌∙◌}
-use mathlib.Core.List.{◌++◌, append-nil}
-use Prim.Native.Nat.{◌+◌, ◌≤◌, ◌%◌}
-use native.Mathlib.Omega.{arith}
-use borrow.Author.Rules.{rules}
-use borrow.Author.Tests.{eq-eqb, ne_eqb}
-use lib.Seq.{append_snoc}
+use mathlib.Core.Path.{◌≡◌}
+use mathlib.Core.List.{◌++◌}
+use Prim.Native.Nat.{◌+◌, ◌≤◌}
 use Rattle.model.specs.Searches.{without}
 use Rattle.lists.specs.Words.{nibbles}
-use Rattle.lists.proofs.Words.{set-behind}
-use Rattle.lists.proofs.Queues.{first, ended}
 use Rattle.lists.proofs.queue.Queue.others.Given as goal
 
 abbrev pub invariant-loop-left : goal.invariant-loop-left

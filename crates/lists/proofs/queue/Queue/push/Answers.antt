@@ -1,6 +1,5 @@
 -- `Queue::push` meets its contract: a number set behind those in use is one more of them.
 use native.Mathlib.Omega.{arith}
-use borrow.Author.Rules.{rules}
 use Rattle.lists.proofs.Words.{set-behind}
 use Rattle.lists.proofs.queue.Queue.push.Goals as goal
 

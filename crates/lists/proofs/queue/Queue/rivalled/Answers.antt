@@ -1,16 +1,11 @@
 -- `Queue::rivalled` meets its contract: whether any that is left passes is whether any passes.
 use mathlib.Core.Path.{◌≡◌, refl, sym, ◌∙◌}
-use mathlib.Core.Bool.{Bool, not, ◌&&◌}
-use Prim.Native.Nat.{ℕ, ◌%◌}
+use Prim.Native.Nat.{◌%◌}
 use native.Mathlib.Omega.{arith}
-use borrow.Author.Rules.{rules}
 use borrow.Author.Tests.{eq-eqb, ne_eqb}
-use lib.Dec.{eqb}
-use Rattle.model.specs.Searches.{any}
-use Rattle.lists.specs.Words.{nibbles, entry_of}
+use Rattle.lists.specs.Words.{entry_of}
 use Rattle.lists.specs.Lists.{current_in}
 use Rattle.lists.proofs.Queues.{first, ended}
-use Rattle.lists.proofs.queue.Queue.rivalled.Invariants.{rival}
 use Rattle.lists.proofs.queue.Queue.rivalled.Goals as goal
 use Rattle.lists.proofs.queue.Queue.rivalled.Goals.{At-loop-left}
 

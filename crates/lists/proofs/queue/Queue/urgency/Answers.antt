@@ -1,10 +1,5 @@
 -- `Queue::urgency` meets its contract: the greater of the top so far and the greatest of those left is the greatest of all.
-use mathlib.Core.Path.{◌≡◌}
-use Prim.Native.Nat.{max}
 use native.Mathlib.Omega.{arith}
-use borrow.Author.Rules.{rules}
-use Rattle.model.specs.Searches.{greatest}
-use Rattle.lists.specs.Words.{nibbles, entry_of}
 use Rattle.lists.proofs.Queues.{first, ended}
 use Rattle.lists.proofs.queue.Queue.urgency.Goals as goal
 

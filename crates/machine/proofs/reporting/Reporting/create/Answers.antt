@@ -1,6 +1,5 @@
 -- `create` meets its contract: the thread is ready, last in the queue and reported.
 use mathlib.Core.Path.{◌≡◌, refl, ap, sym, ◌∙◌}
-use mathlib.Core.Logic.{⊎_elim}
 use Prim.Native.Nat.{ℕ, ◌<◌}
 use native.Mathlib.Omega.{arith}
 use Rattle.model.specs.Records as records
@@ -55,18 +54,21 @@ made c =
     let m = c.args.self.machine in
     let a = create_asked c.requires in
     let e = c.create_rule-rule.ensures ∙ create_rule_lem a in
-    elim c.if-rule-eq0.branch [ then-rule-eq0 w ↦ admits e refl w.if-rule-eq0.true w.m-is refl
-    (record {
-      plan' = refl;
-      keeps = c.requires.asks.stands.keeps;
-      seen =
-          alike refl
-          (ap (λ (k : Slots). conditions_of m.plan.threads k m.wakes) w.placed-slots.ensures ∙ placed_seen m.plan.threads m.slots m.wakes c.args.thread 1 (omega arith))
-          w.push-queue.ensures
-          refl refl refl refl
-          (told c.making-c.ensures w.made-is w.one-made.ensures)
-          refl;
-    }) | else-rule-eq0 w ↦ refuses e c.requires.asks.stands.keeps w.if-rule-eq0.false w.m-is refl (told c.making-c.ensures w.made-is c.none-made.ensures) ]
+    elim c.if-rule-eq0.branch [
+      | then-rule-eq0 w ↦ admits e refl w.if-rule-eq0.true w.m-is refl
+          (record {
+            plan' = refl;
+            keeps = c.requires.asks.stands.keeps;
+            seen =
+                alike refl
+                (ap (λ (k : Slots). conditions_of m.plan.threads k m.wakes) w.placed-slots.ensures ∙ placed_seen m.plan.threads m.slots m.wakes c.args.thread 1 (omega arith))
+                w.push-queue.ensures
+                refl refl refl refl
+                (told c.making-c.ensures w.made-is w.one-made.ensures)
+                refl;
+          })
+      | else-rule-eq0 w ↦ refuses e c.requires.asks.stands.keeps w.if-rule-eq0.false w.m-is refl (told c.making-c.ensures w.made-is c.none-made.ensures)
+    ]
 
 pub chosen-who-requires : goal.chosen-who-requires
 chosen-who-requires c = (call_settles c.requires (made (goal.at.chosen-who-requires c).After-making-c)).chooses

@@ -1,6 +1,5 @@
 -- `delay` meets its contract: the caller sleeps until the wait is over, last in the order of Delays, and is not in the queue.
 use mathlib.Core.Path.{◌≡◌, refl, ap, sym, ◌∙◌}
-use mathlib.Core.Logic.{⊎_elim}
 use mathlib.Core.List.{[]}
 use Prim.Native.Nat.{ℕ, ◌+◌, ◌<◌}
 use native.Mathlib.Omega.{arith}
@@ -75,23 +74,26 @@ made c none' =
     let n = c.args.wait.0 in
     let a = caller_asked c.requires in
     let e = c.free_rule-rule.ensures ∙ delay_rule a n in
-    elim c.if-rule-eq0.branch [ then-rule-eq0 w ↦ let r = admitted a n c.free_rule-rule.ensures w.if-rule-eq0.true in
-    admits e (by r (λ y. delay y n)) w.if-rule-eq0.true w.m-is refl
-    (record {
-      plan' = refl;
-      keeps = c.requires.asks.stands.keeps;
-      seen =
-          alike refl
-          (ap (λ (k : Slots). conditions_of m.plan.threads k (set m.wakes x w.next-until.result)) w.placed-slots.ensures
-          ∙ sleeps_seen m.plan.threads m.slots m.wakes x w.next-until.result (omega (arith, caller_fits r, slept_size c.args.self c.well_formed.0))
-          ∙ ap (λ u. set (conditions_of m.plan.threads m.slots m.wakes) x (asleep u)) (w.next-until.ensures ∙ ap (λ u. u + 1) w.plus-over.ensures))
-          w.without-queue.ensures
-          refl refl
-          w.push-delays.ensures
-          refl
-          none'
-          refl;
-    }) | else-rule-eq0 w ↦ refuses e c.requires.asks.stands.keeps w.if-rule-eq0.false w.m-is refl none' ]
+    elim c.if-rule-eq0.branch [
+      | then-rule-eq0 w ↦ let r = admitted a n c.free_rule-rule.ensures w.if-rule-eq0.true in
+          admits e (by r (λ y. delay y n)) w.if-rule-eq0.true w.m-is refl
+          (record {
+            plan' = refl;
+            keeps = c.requires.asks.stands.keeps;
+            seen =
+                alike refl
+                (ap (λ (k : Slots). conditions_of m.plan.threads k (set m.wakes x w.next-until.result)) w.placed-slots.ensures
+                ∙ sleeps_seen m.plan.threads m.slots m.wakes x w.next-until.result (omega (arith, caller_fits r, slept_size c.args.self c.well_formed.0))
+                ∙ ap (λ u. set (conditions_of m.plan.threads m.slots m.wakes) x (asleep u)) (w.next-until.ensures ∙ ap (λ u. u + 1) w.plus-over.ensures))
+                w.without-queue.ensures
+                refl refl
+                w.push-delays.ensures
+                refl
+                none'
+                refl;
+          })
+      | else-rule-eq0 w ↦ refuses e c.requires.asks.stands.keeps w.if-rule-eq0.false w.m-is refl none'
+    ]
 
 pub none-requires : goal.none-requires
 none-requires c = tt

@@ -1,6 +1,5 @@
 -- `end` meets its contract: the caller is dormant and in no queue.
 use mathlib.Core.Path.{◌≡◌, refl, ap, sym, ◌∙◌}
-use mathlib.Core.Logic.{⊎_elim}
 use mathlib.Core.List.{[]}
 use Prim.Native.Nat.{ℕ}
 use native.Mathlib.Omega.{arith}
@@ -45,19 +44,22 @@ made c none' =
     let m = c.args.self.machine in
     let a = caller_asked c.requires in
     let e = c.free_rule-rule.ensures ∙ end_rule a in
-    elim c.if-rule-eq0.branch [ then-rule-eq0 w ↦ let r = admitted a c.free_rule-rule.ensures w.if-rule-eq0.true in
-    admits e (by r end) w.if-rule-eq0.true w.m-is refl
-    (record {
-      plan' = refl;
-      keeps = c.requires.asks.stands.keeps;
-      seen =
-          alike refl
-          (ap (λ (k : Slots). conditions_of m.plan.threads k m.wakes) w.placed-slots.ensures ∙ placed_seen m.plan.threads m.slots m.wakes c.args.self.machine.reported 0 (omega arith))
-          w.without-queue.ensures
-          refl refl refl refl
-          none'
-          refl;
-    }) | else-rule-eq0 w ↦ refuses e c.requires.asks.stands.keeps w.if-rule-eq0.false w.m-is refl none' ]
+    elim c.if-rule-eq0.branch [
+      | then-rule-eq0 w ↦ let r = admitted a c.free_rule-rule.ensures w.if-rule-eq0.true in
+          admits e (by r end) w.if-rule-eq0.true w.m-is refl
+          (record {
+            plan' = refl;
+            keeps = c.requires.asks.stands.keeps;
+            seen =
+                alike refl
+                (ap (λ (k : Slots). conditions_of m.plan.threads k m.wakes) w.placed-slots.ensures ∙ placed_seen m.plan.threads m.slots m.wakes c.args.self.machine.reported 0 (omega arith))
+                w.without-queue.ensures
+                refl refl refl refl
+                none'
+                refl;
+          })
+      | else-rule-eq0 w ↦ refuses e c.requires.asks.stands.keeps w.if-rule-eq0.false w.m-is refl none'
+    ]
 
 pub none-requires : goal.none-requires
 none-requires c = tt

@@ -1,12 +1,10 @@
 -- `give` meets its contract: the hold ends, and the section that the heir wanted is handed over if no held ceiling bars it.
 use mathlib.Core.Bool.{Bool, true, false, not, true≢false}
 use mathlib.Core.Path.{◌≡◌, refl, ap, ap₂, sym, ◌∙◌}
-use mathlib.Core.Logic.{⊎_elim}
 use mathlib.Core.List.{List, [], ◌∷◌, Memᴰ as Mem}
 use mathlib.Core.Option.{Option, none, some}
 use Prim.Native.Nat.{ℕ, ◌<◌}
 use native.Mathlib.Omega.{arith}
-use borrow.Author.Rules.{rules}
 use lib.ListN.{length}
 use Rattle.model.specs.Searches.{◌▷◌, filter, first_greatest}
 use Rattle.model.specs.Plan.{Plan}
@@ -189,40 +187,47 @@ made c =
     let f = (let it : Facts c.args.self.machine = facts (give_asked c.requires.calls).asked.formed in it) in
     let q = c.give_rule-rule.ensures ∙ give_rule_lem a in
     let none' = c.none-made.ensures in
-    elim c.if-rule-eq0.branch [ then-rule-eq0 v ↦ let g = gives a (sym q ∙ v.if-rule-eq0.true) in
-    let left = v.without-holds.ensures.0 in
-    let t = v.find_heir-heir.result.who in
-    let walked = keeps_walked (plan_of m) v.without-holds.result (ceilings_are m f.valid c.requires.ceilings') v.without-holds.ensures.1 in
-    let e = v.find_heir-heir.ensures in
-    admits q (by g.runs (λ y. give (plan_of m) y n)) v.if-rule-eq0.true v.m-is refl
-    (elim v.if-heir.branch [ then-heir w ↦ let d = somebody m f t e.0 c.args.ceilings.now (held v.without-holds.result) e.1 w.if-heir.true in
-    let o = named (heir_in m) t (is-heir m f t e.0) d in
-    rw (w.m-is, w.holds-is)
-    (record {
-      plan' = refl;
-      keeps = keeps_gained (plan_of m) v.without-holds.result w.push-holds.result w.wanted-wanted.result t walked (ceiling_in_lem m f.valid c.requires.ceilings' w.wanted-wanted.result) w.push-holds.ensures.0 w.push-holds.ensures.1;
-      seen =
-          won-seen (plan_of m) x n (idle m) t o
-          (tested m c.args.ceilings.now f c.requires.ceilings' t o left v.find_heir-heir.result.free true e.1 w.if-heir.true)
-          (alike refl
-          (ap (λ (k : Slots). conditions_of m.plan.threads k m.wakes) w.placed-slots.ensures ∙ placed_seen m.plan.threads m.slots m.wakes t 1 (omega arith))
-          w.push-queue.ensures
-          (w.push-holds.ensures.0 ∙ ap₂ (λ (k : ℕ) (hs : List Hold). hold k t ∷ hs) (w.wanted-wanted.ensures ∙ wants_is m f t e.0 d) left)
-          w.without-waits.ensures
-          refl refl
-          (told c.making-c.ensures (v.made-is ∙ w.made-is) w.won-made.ensures)
-          refl);
-    }) | else-heir+then-t w ↦ let o = named (heir_in m) t (is-heir m f t e.0) w.if-t.true in
-    rw (w.m-is, w.holds-is)
-    (record {
-      plan' = refl;
-      keeps = walked;
-      seen =
-          lost-seen (plan_of m) x n (idle m) t o
-          (tested m c.args.ceilings.now f c.requires.ceilings' t o left v.find_heir-heir.result.free false e.1 w.if-heir.false)
-          (alike refl refl refl left refl refl refl (told c.making-c.ensures (v.made-is ∙ w.made-is) w.one-made.ensures) refl);
-    }) | else-heir+else-t w ↦ rw (w.m-is, w.holds-is)
-    (record { plan' = refl; keeps = walked; seen = none_seen (plan_of m) x n (idle m) (nobody m f t e.0 w.if-t.false) (alike refl refl refl left refl refl refl (told c.making-c.ensures (v.made-is ∙ w.made-is) none') refl) }) ]) | else-rule-eq0 v ↦ refuses q c.requires.calls.asks.stands.keeps v.if-rule-eq0.false v.m-is refl (told c.making-c.ensures v.made-is none') ]
+    elim c.if-rule-eq0.branch [
+      | then-rule-eq0 v ↦ let g = gives a (sym q ∙ v.if-rule-eq0.true) in
+          let left = v.without-holds.ensures.0 in
+          let t = v.find_heir-heir.result.who in
+          let walked = keeps_walked (plan_of m) v.without-holds.result (ceilings_are m f.valid c.requires.ceilings') v.without-holds.ensures.1 in
+          let e = v.find_heir-heir.ensures in
+          admits q (by g.runs (λ y. give (plan_of m) y n)) v.if-rule-eq0.true v.m-is refl
+          (elim v.if-heir.branch [
+            | then-heir w ↦ let d = somebody m f t e.0 c.args.ceilings.now (held v.without-holds.result) e.1 w.if-heir.true in
+                let o = named (heir_in m) t (is-heir m f t e.0) d in
+                rw (w.m-is, w.holds-is)
+                (record {
+                  plan' = refl;
+                  keeps = keeps_gained (plan_of m) v.without-holds.result w.push-holds.result w.wanted-wanted.result t walked (ceiling_in_lem m f.valid c.requires.ceilings' w.wanted-wanted.result) w.push-holds.ensures.0 w.push-holds.ensures.1;
+                  seen =
+                      won-seen (plan_of m) x n (idle m) t o
+                      (tested m c.args.ceilings.now f c.requires.ceilings' t o left v.find_heir-heir.result.free true e.1 w.if-heir.true)
+                      (alike refl
+                      (ap (λ (k : Slots). conditions_of m.plan.threads k m.wakes) w.placed-slots.ensures ∙ placed_seen m.plan.threads m.slots m.wakes t 1 (omega arith))
+                      w.push-queue.ensures
+                      (w.push-holds.ensures.0 ∙ ap₂ (λ (k : ℕ) (hs : List Hold). hold k t ∷ hs) (w.wanted-wanted.ensures ∙ wants_is m f t e.0 d) left)
+                      w.without-waits.ensures
+                      refl refl
+                      (told c.making-c.ensures (v.made-is ∙ w.made-is) w.won-made.ensures)
+                      refl);
+                })
+            | else-heir+then-t w ↦ let o = named (heir_in m) t (is-heir m f t e.0) w.if-t.true in
+                rw (w.m-is, w.holds-is)
+                (record {
+                  plan' = refl;
+                  keeps = walked;
+                  seen =
+                      lost-seen (plan_of m) x n (idle m) t o
+                      (tested m c.args.ceilings.now f c.requires.ceilings' t o left v.find_heir-heir.result.free false e.1 w.if-heir.false)
+                      (alike refl refl refl left refl refl refl (told c.making-c.ensures (v.made-is ∙ w.made-is) w.one-made.ensures) refl);
+                })
+            | else-heir+else-t w ↦ rw (w.m-is, w.holds-is)
+                (record { plan' = refl; keeps = walked; seen = none_seen (plan_of m) x n (idle m) (nobody m f t e.0 w.if-t.false) (alike refl refl refl left refl refl refl (told c.making-c.ensures (v.made-is ∙ w.made-is) none') refl) })
+          ])
+      | else-rule-eq0 v ↦ refuses q c.requires.calls.asks.stands.keeps v.if-rule-eq0.false v.m-is refl (told c.making-c.ensures v.made-is none')
+    ]
 
 pub chosen-who-requires : goal.chosen-who-requires
 chosen-who-requires c = (call_settles c.requires.calls (made (goal.at.chosen-who-requires c).After-making-c)).chooses

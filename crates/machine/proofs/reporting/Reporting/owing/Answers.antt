@@ -1,6 +1,5 @@
 -- `owing` meets its contract: a Switch is due where no rule is broken and the chosen thread is not the one reported.
 use mathlib.Core.Path.{◌≡◌, ap, ◌∙◌}
-use mathlib.Core.Logic.{⊎_elim}
 use mathlib.Core.Bool.{cond, not, ◌&&◌}
 use Prim.Native.Nat.{ℕ, ◌+◌}
 use native.Mathlib.Omega.{arith}

@@ -1,6 +1,5 @@
 -- `relinquish` meets its contract: a rivalled caller goes to the end of the queue and yields, and any other stays.
 use mathlib.Core.Path.{◌≡◌, refl, ap, sym, ◌∙◌}
-use mathlib.Core.Logic.{⊎_elim}
 use mathlib.Core.Bool.{Bool, true, false}
 use mathlib.Core.List.{[], ◌∷◌, ◌++◌}
 use Prim.Native.Nat.{ℕ, ◌<◌}
@@ -86,22 +85,26 @@ made c =
     let a = caller_asked c.requires in
     let e = c.run_rule-rule.ensures ∙ relinquish_rule a in
     let none' = c.none-made.ensures in
-    elim c.if-rule-eq0.branch [ then-rule-eq0+then-rivalled_of w ↦ let g = admitted a c.run_rule-rule.ensures w.if-rule-eq0.true in
-    let t = tested a c.requires.asks.stands.keeps w.rivalled_of.result true (caller_known g) w.rivalled_of.ensures w.if-rivalled_of.true in
-    admits e (by g (relinquish (plan_of m)) ∙ yields (plan_of m) x (idle m) t) w.if-rule-eq0.true w.m-is refl
-    (record {
-      plan' = refl;
-      keeps = c.requires.asks.stands.keeps;
-      seen =
-          alike refl refl
-          (w.push-queue.ensures ∙ ap (λ l. l ++ (x ∷ [])) w.without-others.ensures)
-          refl refl refl refl
-          (told c.making-c.ensures w.made-is w.one-made.ensures)
-          refl;
-    }) | then-rule-eq0+else-rivalled_of w ↦ let g = admitted a c.run_rule-rule.ensures w.if-rule-eq0.true in
-    let t = tested a c.requires.asks.stands.keeps w.rivalled_of.result false (caller_known g) w.rivalled_of.ensures w.if-rivalled_of.false in
-    admits e (by g (relinquish (plan_of m)) ∙ stays (plan_of m) x (idle m) t) w.if-rule-eq0.true w.m-is refl
-    (record { plan' = refl; keeps = c.requires.asks.stands.keeps; seen = alike refl refl refl refl refl refl refl (told c.making-c.ensures w.made-is none') refl }) | else-rule-eq0 w ↦ refuses e c.requires.asks.stands.keeps w.if-rule-eq0.false w.m-is refl (told c.making-c.ensures w.made-is none') ]
+    elim c.if-rule-eq0.branch [
+      | then-rule-eq0+then-rivalled_of w ↦ let g = admitted a c.run_rule-rule.ensures w.if-rule-eq0.true in
+          let t = tested a c.requires.asks.stands.keeps w.rivalled_of.result true (caller_known g) w.rivalled_of.ensures w.if-rivalled_of.true in
+          admits e (by g (relinquish (plan_of m)) ∙ yields (plan_of m) x (idle m) t) w.if-rule-eq0.true w.m-is refl
+          (record {
+            plan' = refl;
+            keeps = c.requires.asks.stands.keeps;
+            seen =
+                alike refl refl
+                (w.push-queue.ensures ∙ ap (λ l. l ++ (x ∷ [])) w.without-others.ensures)
+                refl refl refl refl
+                (told c.making-c.ensures w.made-is w.one-made.ensures)
+                refl;
+          })
+      | then-rule-eq0+else-rivalled_of w ↦ let g = admitted a c.run_rule-rule.ensures w.if-rule-eq0.true in
+          let t = tested a c.requires.asks.stands.keeps w.rivalled_of.result false (caller_known g) w.rivalled_of.ensures w.if-rivalled_of.false in
+          admits e (by g (relinquish (plan_of m)) ∙ stays (plan_of m) x (idle m) t) w.if-rule-eq0.true w.m-is refl
+          (record { plan' = refl; keeps = c.requires.asks.stands.keeps; seen = alike refl refl refl refl refl refl refl (told c.making-c.ensures w.made-is none') refl })
+      | else-rule-eq0 w ↦ refuses e c.requires.asks.stands.keeps w.if-rule-eq0.false w.m-is refl (told c.making-c.ensures w.made-is none')
+    ]
 
 pub chosen-who-requires : goal.chosen-who-requires
 chosen-who-requires c = (call_settles c.requires (made (goal.at.chosen-who-requires c).After-making-c)).chooses

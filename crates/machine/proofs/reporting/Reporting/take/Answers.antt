@@ -1,6 +1,5 @@
 -- `take` meets its contract: a caller whose base is above every ceiling held by others holds the section, any other waits for it.
 use mathlib.Core.Path.{◌≡◌, refl, ap, sym, ◌∙◌}
-use mathlib.Core.Logic.{⊎_elim}
 use mathlib.Core.Bool.{Bool, true, false}
 use mathlib.Core.List.{List, [], ◌∷◌}
 use Prim.Native.Nat.{ℕ, ◌<◌}
@@ -117,30 +116,34 @@ made c =
     let a = take_asked c.requires.calls in
     let e = c.take_rule-rule.ensures ∙ take-rule a in
     let above = tested m c.args.ceilings.now ((let it : Facts c.args.self.machine = facts (take_asked c.requires.calls).asked.formed in it)) c.requires.ceilings' x in
-    elim c.if-rule-eq0.branch [ then-rule-eq0+then-clear w ↦ admits e (by (takes a (sym e ∙ w.if-rule-eq0.true)).runs (λ y. take (plan_of m) y n)) w.if-rule-eq0.true w.m-is refl
-    (record {
-      plan' = refl;
-      keeps = keeps_gained (plan_of m) m.holds w.push-holds.result n x c.requires.calls.asks.stands.keeps (ceiling_in_lem m ((let it : Facts c.args.self.machine = facts (take_asked c.requires.calls).asked.formed in it)).valid c.requires.ceilings' n) w.push-holds.ensures.0 w.push-holds.ensures.1;
-      seen =
-          won-seen (plan_of m) x n (idle m)
-          (above w.base-b.result w.clear.result true w.base-b.ensures w.clear.ensures w.if-clear.true)
-          (alike refl refl refl w.push-holds.ensures.0 refl refl refl (told c.making-c.ensures w.made-is w.one-made.ensures) refl);
-    }) | then-rule-eq0+else-clear w ↦ admits e (by (takes a (sym e ∙ w.if-rule-eq0.true)).runs (λ y. take (plan_of m) y n)) w.if-rule-eq0.true w.m-is refl
-    (record {
-      plan' = refl;
-      keeps = c.requires.calls.asks.stands.keeps;
-      seen =
-          lost-seen (plan_of m) x n (idle m)
-          (above w.base-b.result w.clear.result false w.base-b.ensures w.clear.ensures w.if-clear.false)
-          (alike refl
-          (ap (λ (k : Slots). conditions_of m.plan.threads k m.wakes) w.waits_for-slots.ensures ∙ waits_seen m.plan.threads m.slots m.wakes x n ((let it : c.args.section < 16 = let a = take_asked c.requires.calls in omega (arith, a.known, (facts a.asked.formed).fits.sections) in it)))
-          w.without-queue.ensures
-          refl
-          w.push-waits.ensures
-          refl refl
-          (told c.making-c.ensures w.made-is w.one-made-else-clear.ensures)
-          refl);
-    }) | else-rule-eq0 w ↦ refuses e c.requires.calls.asks.stands.keeps w.if-rule-eq0.false w.m-is refl (told c.making-c.ensures w.made-is c.none-made.ensures) ]
+    elim c.if-rule-eq0.branch [
+      | then-rule-eq0+then-clear w ↦ admits e (by (takes a (sym e ∙ w.if-rule-eq0.true)).runs (λ y. take (plan_of m) y n)) w.if-rule-eq0.true w.m-is refl
+          (record {
+            plan' = refl;
+            keeps = keeps_gained (plan_of m) m.holds w.push-holds.result n x c.requires.calls.asks.stands.keeps (ceiling_in_lem m ((let it : Facts c.args.self.machine = facts (take_asked c.requires.calls).asked.formed in it)).valid c.requires.ceilings' n) w.push-holds.ensures.0 w.push-holds.ensures.1;
+            seen =
+                won-seen (plan_of m) x n (idle m)
+                (above w.base-b.result w.clear.result true w.base-b.ensures w.clear.ensures w.if-clear.true)
+                (alike refl refl refl w.push-holds.ensures.0 refl refl refl (told c.making-c.ensures w.made-is w.one-made.ensures) refl);
+          })
+      | then-rule-eq0+else-clear w ↦ admits e (by (takes a (sym e ∙ w.if-rule-eq0.true)).runs (λ y. take (plan_of m) y n)) w.if-rule-eq0.true w.m-is refl
+          (record {
+            plan' = refl;
+            keeps = c.requires.calls.asks.stands.keeps;
+            seen =
+                lost-seen (plan_of m) x n (idle m)
+                (above w.base-b.result w.clear.result false w.base-b.ensures w.clear.ensures w.if-clear.false)
+                (alike refl
+                (ap (λ (k : Slots). conditions_of m.plan.threads k m.wakes) w.waits_for-slots.ensures ∙ waits_seen m.plan.threads m.slots m.wakes x n ((let it : c.args.section < 16 = let a = take_asked c.requires.calls in omega (arith, a.known, (facts a.asked.formed).fits.sections) in it)))
+                w.without-queue.ensures
+                refl
+                w.push-waits.ensures
+                refl refl
+                (told c.making-c.ensures w.made-is w.one-made-else-clear.ensures)
+                refl);
+          })
+      | else-rule-eq0 w ↦ refuses e c.requires.calls.asks.stands.keeps w.if-rule-eq0.false w.m-is refl (told c.making-c.ensures w.made-is c.none-made.ensures)
+    ]
 
 pub chosen-who-requires : goal.chosen-who-requires
 chosen-who-requires c = (call_settles c.requires.calls (made (goal.at.chosen-who-requires c).After-making-c)).chooses

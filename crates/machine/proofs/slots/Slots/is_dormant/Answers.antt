@@ -1,6 +1,5 @@
 -- `Slots::is_dormant` meets its contract: the four bits read are the thread's.
 use mathlib.Core.Path.{ap}
-use borrow.Author.Rules.{rules}
 use lib.Dec.{eqb}
 use Rattle.machine.proofs.slots.Slots.is_dormant.Goals as goal
 

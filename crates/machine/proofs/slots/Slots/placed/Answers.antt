@@ -1,5 +1,4 @@
 -- `Slots::placed` meets its contract: the word with the thread's four bits set, beside the other as it was.
-use borrow.Author.Rules.{rules}
 use Rattle.machine.proofs.slots.Slots.placed.Goals as goal
 
 pub returns : goal.returns

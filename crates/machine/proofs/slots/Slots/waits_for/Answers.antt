@@ -1,5 +1,4 @@
 -- `Slots::waits_for` meets its contract: both words with the thread's four bits set.
-use borrow.Author.Rules.{rules}
 use Rattle.machine.proofs.slots.Slots.waits_for.Goals as goal
 
 pub returns : goal.returns

@@ -1,11 +1,9 @@
 -- `delivered` meets its contract: the first report is due no longer, and a Switch given names the thread reported.
 use mathlib.Core.Path.{◌≡◌, refl, ap, sym, subst, ◌∙◌}
-use mathlib.Core.Logic.{⊎_elim}
 use mathlib.Core.List.Memᴰ.{head as here}
 use mathlib.Core.List.{Memᴰ as Mem}
 use Prim.Native.Nat.{ℕ, ◌+◌, ◌%◌}
 use native.Mathlib.Omega.{arith}
-use borrow.Author.Rules.{rules}
 use lib.ListN.{drop}
 use Rattle.model.specs.Records.{operand_thread}
 use Rattle.model.specs.State.{switched_to}

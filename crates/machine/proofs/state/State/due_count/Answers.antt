@@ -1,6 +1,5 @@
 -- `due_count` meets its contract: those due are the reports of the array behind the ones given.
 use native.Mathlib.Omega.{arith}
-use borrow.Author.Rules.{rules}
 use lib.ListN.{length-drop}
 use Rattle.due.specs.Lists.{owed}
 use Rattle.due.proofs.Laws.{length-owed}

@@ -1,6 +1,5 @@
 -- `fresh` meets its contract: a machine at its start, and no report.
 use mathlib.Core.Path.{ap, ◌∙◌}
-use borrow.Author.Rules.{rules}
 use Rattle.machine.specs.View.{viewed}
 use Rattle.machine.proofs.state.State.fresh.Goals as goal
 
