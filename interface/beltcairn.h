@@ -1,6 +1,6 @@
 /*
  * beltcairn: the proved kernel watch and bench kernel of a field module, for C and C++.
- * Link libexports.a, which `rt staticlib exports` writes; of other libraries it needs memcpy and memset alone. x86-64 Linux.
+ * Link libexports.a, which `rt lib` in crates/exports writes; of other libraries it needs memcpy and memset alone. x86-64 Linux.
  *
  * Bytes. Numbers of two bytes have the low byte first.
  *   plan   T (1 to 16), S (0 to 16), T base priorities (1 to 64, greater is more urgent), T needs of two bytes: bit s set means that the

@@ -48,5 +48,5 @@ pub fn hexadecimal(bytes: &[u8]) -> String {
 /// A line for the shell that feeds the bytes to one of the programs.
 pub fn shell_line(bytes: &[u8], program: &str) -> String {
     let escapes: String = bytes.iter().map(|byte| format!("\\x{byte:02x}")).collect();
-    format!("printf '{escapes}' | target/bin/{program}")
+    format!("printf '{escapes}' | crates/{program}/out/{program}")
 }
