@@ -18,13 +18,13 @@ use Rattle.model.proofs.Tests.{and_left, and_right}
 use Rattle.model.proofs.Searches.{all_at}
 use Rattle.model.proofs.Laws.{counts_fit}
 use Rattle.plan.specs.Bytes as plans
-use Rattle.plan.specs.Known.{plan_bytes, plan_aBytes, plan12_bytes}
+use Rattle.plan.specs.Known.{plan_bytes, plan_a_bytes, plan12_bytes}
 use Rattle.plan.proofs.Laws.{known_plans}
 use Rattle.dump.specs.Layout.{encode}
 use Rattle.dump.specs.Questions.{most_records}
 use Rattle.dump.proofs.Laws.{encode_passes, decode_encode}
 use Rattle.monitor.specs.Answers.{judged, check}
-use Rattle.monitor.specs.Known.{dump_aBytes, dump12_bytes}
+use Rattle.monitor.specs.Known.{dump_a_bytes, dump12_bytes}
 use Rattle.monitor.proofs.Passed.{unrefused_judged}
 
 -- lists made of a list are equal exactly where what is made of each member is
@@ -72,10 +72,10 @@ pub known_bytes : map (λ (r : Run). check (plan_bytes r.of) (encode r.records))
 known_bytes = made_all (λ (r : Run). check (plan_bytes r.of) (encode r.records)) (λ (r : Run). judged r.verdict) runs answers
 
 -- The bytes that document 01 prints for run A are those of model's run A.
-pub run_a_written : (plan_bytes plan_a ≡ plan_aBytes) × (encode run_a ≡ dump_aBytes)
+pub run_a_written : (plan_bytes plan_a ≡ plan_a_bytes) × (encode run_a ≡ dump_a_bytes)
 run_a_written = (refl, refl)
 
-pub run_a_lem : check plan_aBytes dump_aBytes ≡ judged (clean 17 0)
+pub run_a_lem : check plan_a_bytes dump_a_bytes ≡ judged (clean 17 0)
 run_a_lem = answers _ (here refl)
 
 -- P12, whose Delay shows which byte comes first

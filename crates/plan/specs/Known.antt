@@ -12,8 +12,8 @@ abbrev pub plan_bytes : Plan → List ℕ
 plan_bytes p = threads p ∷ p.sections ∷ p.bases ++ words p.needs
 
 -- Run A. Plan `03 01 01 02 03 01 00 00 00 01 00`.
-abbrev pub plan_aBytes : List ℕ
-plan_aBytes = 0x03 ∷ 0x01 ∷ 0x01 ∷ 0x02 ∷ 0x03 ∷ 0x01 ∷ 0x00 ∷ 0x00 ∷ 0x00 ∷ 0x01 ∷ 0x00 ∷ []
+abbrev pub plan_a_bytes : List ℕ
+plan_a_bytes = 0x03 ∷ 0x01 ∷ 0x01 ∷ 0x02 ∷ 0x03 ∷ 0x01 ∷ 0x00 ∷ 0x00 ∷ 0x00 ∷ 0x01 ∷ 0x00 ∷ []
 
 -- P12. One thread of priority 1, no section.
 abbrev pub plan12_bytes : List ℕ

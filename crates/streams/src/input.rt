@@ -1,9 +1,9 @@
 // Standard input, as far as a buffer holds it, and whether it could be read.
-ghost use Rattle.std.specs.Prelude.{◌≡◌, ◌≤ℤ◌, true, pos, length};
+ghost use Rattle.std.specs.Prelude.{◌≡◌, ◌<◌, ◌^◌, true, IfOk};
 ghost use Rattle.io.specs.Counts.{IsPrefixLen};
-ghost use Rattle.streams.specs.Input.{meaning_of};
+ghost use Rattle.streams.specs.Input.{answer_of, meaning_of};
 
-use std::io::{Read, Stdin};
+use std::io::{Read, Result, Stdin};
 
 // What a call of `read` did: it failed, found the end of the input, or moved so many bytes.
 #[derive(Clone, Copy)]
@@ -33,11 +33,12 @@ fn meaning(got: isize) -> Outcome
     Outcome::Moved(got as usize)
 }
 
-// The number by which C answers a read of standard input: below 0 where it failed, and never more than there is room for.
-fn answer(stdin: &mut Stdin, piece: &mut [u8]) -> isize
-    ensures { result ≤ℤ pos (length piece.new) }
+// The number by which C answers a read. Rules out a failure that is told as the end of the input, or as bytes that were moved.
+fn answer(got: Result<usize>) -> isize
+    requires { IfOk got (λ n. n < 2 ^ 63) }
+    ensures { result ≡ answer_of got }
 {
-    match stdin.read(piece) {
+    match got {
         Ok(n) => n as isize,
         Err(_) => -1,
     }
@@ -50,7 +51,7 @@ pub fn read_input(stdin: &mut Stdin, buf: &mut [u8]) -> Input
 {
     let mut done = 0;
     while done < buf.len() {
-        match meaning(answer(stdin, &mut buf[done..])) {
+        match meaning(answer(stdin.read(&mut buf[done..]))) {
             Outcome::Failed => return Input {
                 size: 0,
                 failed: true,
