@@ -28,13 +28,10 @@ both_yes c =
     let t = from_true ((let a = c.args in has_kinds a.list a.bytes.now) && (let a = c.args in has_operands a.threads a.sections a.bytes.now)) (sym c.has_records.ensures ∙ c.if-has_records.true) in
     (is_true ((let a = c.args in has_kinds a.list a.bytes.now)) (and_left ((let a = c.args in has_kinds a.list a.bytes.now)) ((let a = c.args in has_operands a.threads a.sections a.bytes.now)) t), is_true ((let a = c.args in has_operands a.threads a.sections a.bytes.now)) (and_right ((let a = c.args in has_kinds a.list a.bytes.now)) ((let a = c.args in has_operands a.threads a.sections a.bytes.now)) t))
 
-kinds : (c : goal.Else-not-has_kinds) → (let a = c.args in has_kinds a.list a.bytes.now) ≡ true
-kinds c = sym c.has_kinds.ensures ∙ not-false c.has_kinds.result c.if-not-has_kinds.false-raw
-
 -- with every kind allowed, it is an operand that is not
-operands-no : (c : goal.Else-not-has_kinds) → (let a = c.args in has_operands a.threads a.sections a.bytes.now) ≡ false
-operands-no c =
-    sym (ap (λ b. b && (let a = c.args in has_operands a.threads a.sections a.bytes.now)) (kinds c)) ∙ sym c.has_records.ensures ∙ c.if-has_records.false
+operands-no : (c : goal.Else-not-has_kinds) → (let a = c.args in has_kinds a.list a.bytes.now) ≡ true → (let a = c.args in has_operands a.threads a.sections a.bytes.now) ≡ false
+operands-no c kinds =
+    sym (ap (λ b. b && (let a = c.args in has_operands a.threads a.sections a.bytes.now)) kinds) ∙ sym c.has_records.ensures ∙ c.if-has_records.false
 
 pub returns-then-not-has_count : goal.returns-then-not-has_count
 unfolding refusal questions
@@ -64,4 +61,6 @@ returns-then-not-has_kinds c =
 
 pub returns : goal.returns
 unfolding refusal questions
-returns c = rw (count (goal.at.returns c).Else-not-has_count, size (goal.at.returns c).Else-not-has_length, kinds (goal.at.returns c).Else-not-has_kinds, operands-no (goal.at.returns c).Else-not-has_kinds)
+returns c =
+    let kinds : has_kinds c.args.list c.args.bytes.now ≡ true = sym c.has_kinds.ensures ∙ not-false c.has_kinds.result c.if-not-has_kinds.false-raw in
+    rw (count (goal.at.returns c).Else-not-has_count, size (goal.at.returns c).Else-not-has_length, kinds, operands-no (goal.at.returns c).Else-not-has_kinds kinds)

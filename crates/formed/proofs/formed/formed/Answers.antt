@@ -3,10 +3,9 @@
 use mathlib.Core.Path.{◌≡◌}
 use mathlib.Core.Bool.{true}
 use native.Mathlib.Omega.{arith}
-use Rattle.model.specs.Formed.{formed_machine}
 use Rattle.model.proofs.Tests.{from_true}
 use Rattle.plan.proofs.Laws.{valid_fits}
-use Rattle.machine.specs.View.{plan_of, idle}
+use Rattle.machine.specs.View.{plan_of}
 use Rattle.machine.specs.Kept.{kept}
 use Rattle.machine.proofs.Laws.{machine_facts, delays_within}
 use Rattle.formed.proofs.Outside.{was_no, was_yes}
@@ -26,11 +25,8 @@ returns-then-not-machine_formed c = not_formed c.args.state (was_no c.machine_fo
 abbrev begun : goal.Else-not-machine_formed → goal.Start
 begun e = e.before.before.before.before.before.before
 
-standing : (e : goal.Else-not-machine_formed) → (let m = (begun e).args.state.machine in formed_machine (plan_of m) (idle m) ≡ true)
-standing e = was_yes e.machine_formed.ensures e.if-not-machine_formed.false-raw
-
 pub keeps-requires : goal.keeps-requires
-keeps-requires c = from_true _ (standing (goal.at.keeps-requires c).Else-not-machine_formed)
+keeps-requires c = from_true _ (was_yes c.machine_formed.ensures c.if-not-machine_formed.false-raw)
 
 pub returns-then-not-keeps : goal.returns-then-not-keeps
 returns-then-not-keeps c = not_kept (begun (goal.at.returns-then-not-keeps c).Else-not-machine_formed).args.state (was_no c.keeps.ensures c.if-not-keeps.true-raw)
@@ -41,18 +37,18 @@ agrees j =
     elim j.if-m-gt0.branch [ then-m-gt0+else-not-keeps w ↦ was_yes w.keeps.ensures w.if-not-keeps.false-raw | else-m-gt0 w ↦ empty_fits_lem (plan_of m) m.holds (omega (arith, w.if-m-gt0.false)) (was_yes j.empty_fits.ensures j.if-not-empty_fits.false-raw) ]
 
 pub shown-requires : goal.shown-requires
-shown-requires c = (from_true _ (standing (goal.at.shown-requires c).Else-not-machine_formed), from_true _ (agrees (goal.at.shown-requires c).Joined-m-gt0))
+shown-requires c = (from_true _ (was_yes c.machine_formed.ensures c.if-not-machine_formed.false-raw), from_true _ (agrees (goal.at.shown-requires c).Joined-m-gt0))
 
 pub returns-then-state : goal.returns-then-state
 returns-then-state c =
-    at_rest (begun (goal.at.returns-then-state c).Else-not-machine_formed).args.state (standing (goal.at.returns-then-state c).Else-not-machine_formed) (agrees (goal.at.returns-then-state c).Joined-m-gt0) c.if-state.true c.shown.ensures
+    at_rest (begun (goal.at.returns-then-state c).Else-not-machine_formed).args.state (was_yes c.machine_formed.ensures c.if-not-machine_formed.false-raw) (agrees (goal.at.returns-then-state c).Joined-m-gt0) c.if-state.true c.shown.ensures
 
 pub formed-requires : goal.formed-requires
 formed-requires c =
     let m = (begun (goal.at.formed-requires c).Else-not-machine_formed).args.state.machine in
-    let f = from_true _ (standing (goal.at.formed-requires c).Else-not-machine_formed) in
+    let f = from_true _ (was_yes c.machine_formed.ensures c.if-not-machine_formed.false-raw) in
     (valid_fits m.plan (machine_facts m f).valid, delays_within m f, c.if-state.false)
 
 pub returns : goal.returns
 returns c =
-    with_due (begun (goal.at.returns c).Else-not-machine_formed).args.state (standing (goal.at.returns c).Else-not-machine_formed) (agrees (goal.at.returns c).Joined-m-gt0) c.formed.ensures
+    with_due (begun (goal.at.returns c).Else-not-machine_formed).args.state (was_yes c.machine_formed.ensures c.if-not-machine_formed.false-raw) (agrees (goal.at.returns c).Joined-m-gt0) c.formed.ensures

@@ -1,7 +1,7 @@
 -- `reports::formed` meets its contract: how many are due, whether each is a report of the papers', whether a Switch is last, and then the room for reports.
 use mathlib.Core.Path.{ap₂}
 use mathlib.Core.Bool.{not}
-use Prim.Native.Nat.{◌+◌, ◌-◌, ◌≤◌}
+use Prim.Native.Nat.{◌+◌, ◌≤◌}
 use native.Mathlib.Omega.{arith}
 use borrow.Author.Tests.{ltb-true, ltb-false}
 use lib.Dec.{leb}
@@ -25,9 +25,6 @@ returns-then-n-gt-ROOM c =
 
 in_array : (p : goal.After-p-1) → p.args.reports.count ≤ report_room
 in_array p = p.if-n-gt-ROOM.false
-
-few : (p : goal.After-p-1) → (let a = p.args in a.reports.count - a.given ≤ a.m.plan.threads + 9)
-few p = ltb-false _ _ p.if-most-n.false-raw
 
 pub all_reports-requires : goal.all_reports-requires
 all_reports-requires c = (c.requires.0, in_array (goal.at.all_reports-requires c).After-p-1)
@@ -71,5 +68,5 @@ overflow_add-result-3 c = record { fits = omega (arith, others-few (goal.at.over
 pub returns : goal.returns
 returns c =
     let a = c.args in
-    room_decides a.m a.reports a.given c.requires.2 (few (goal.at.returns c).After-p-1) (was_yes c.all_reports.ensures c.if-not-all_reports.false-raw) (was_yes c.switch_last.ensures c.if-not-switch_last.false-raw)
+    room_decides a.m a.reports a.given c.requires.2 (ltb-false _ _ c.if-most-n.false-raw) (was_yes c.all_reports.ensures c.if-not-all_reports.false-raw) (was_yes c.switch_last.ensures c.if-not-switch_last.false-raw)
     (ap₂ (λ n t. leb (n + a.m.delays.count + t + 1) (a.m.plan.threads + 9)) c.but_switch.ensures c.owed_none.ensures)

@@ -2,7 +2,7 @@
 use mathlib.Core.Path.{◌≡◌, refl, ap}
 use mathlib.Core.Bool.{Bool, true, false, not}
 use mathlib.Core.List.{List}
-use Prim.Native.Nat.{ℕ, ◌-◌, ◌/◌, ◌%◌}
+use Prim.Native.Nat.{ℕ, ◌-◌, ◌/◌, ◌%◌, ◌<◌}
 use borrow.Author.Tests.{lt-ltb, le-ltb}
 use Rattle.model.specs.Searches.{any}
 use Rattle.model.specs.State as state
@@ -39,19 +39,19 @@ module _ (p : goal.Then-top-b) where
   barred = bars ceilings (base next)
 
   -- the outer loop goes on with it as the heir, which is free as f says
-  on-with : (f : Bool) → f ≡ not (any barred holding)
+  on-with : p.waits.top < base next → (f : Bool) → f ≡ not (any barred holding)
       → let a = p.args.waits in
       let w = p.waits in
       HeirLeft base ceilings holding a.count a.items next f (base next) (w.left - 1) (w.rest / 16)
-  on-with f e =
+  on-with above f e =
       let a = p.args.waits in
       let w = p.waits in
-      turns_to base ceilings holding a.count a.items w.who w.free w.top w.left w.rest p.waits-test.true w.invariant p.if-top-b.true f e
+      turns_to base ceilings holding a.count a.items w.who w.free w.top w.left w.rest p.waits-test.true w.invariant above f e
 
 pub waits-preserved-then-b-all : goal.waits-preserved-then-b-all
 waits-preserved-then-b-all c =
     let l = c.loop-n in
-    on-with (goal.at.waits-preserved-then-b-all c).Then-top-b false
+    on-with (goal.at.waits-preserved-then-b-all c).Then-top-b c.if-top-b.true false
     (found (barred (goal.at.waits-preserved-then-b-all c).Then-top-b) (holding (goal.at.waits-preserved-then-b-all c).Then-top-b) l.n l.sections l.invariant.0 c.loop-n-test.true l.invariant.1
     (ap not (le-ltb (entry_of (ceilings (goal.at.waits-preserved-then-b-all c).Then-top-b) (l.sections % 16)) (base (goal.at.waits-preserved-then-b-all c).Then-top-b (next (goal.at.waits-preserved-then-b-all c).Then-top-b)) c.if-b-all.true)))
 
@@ -66,7 +66,7 @@ loop-n-preserved c =
 pub waits-preserved-then-top-b : goal.waits-preserved-then-top-b
 waits-preserved-then-top-b c =
     let l = c.loop-n in
-    on-with (goal.at.waits-preserved-then-top-b c).Then-top-b true (none_found (barred (goal.at.waits-preserved-then-top-b c).Then-top-b) (holding (goal.at.waits-preserved-then-top-b c).Then-top-b) l.n l.sections l.invariant.0 c.loop-n-test.false l.invariant.1)
+    on-with (goal.at.waits-preserved-then-top-b c).Then-top-b c.if-top-b.true true (none_found (barred (goal.at.waits-preserved-then-top-b c).Then-top-b) (holding (goal.at.waits-preserved-then-top-b c).Then-top-b) l.n l.sections l.invariant.0 c.loop-n-test.false l.invariant.1)
 
 pub waits-preserved : goal.waits-preserved
 waits-preserved c =

@@ -9,6 +9,7 @@ use borrow.Author.Tests.{ltb-true, ltb-false, lt-ltb, le-ltb}
 use lib.Dec.{ltb}
 use Rattle.model.specs.Timers.{timer, start_given, lost, armed_at}
 use Rattle.model.proofs.Laws.{armed_soon}
+use Rattle.model.proofs.Tests.{equal?}
 use Rattle.clock.specs.declared.timers.Timers.{Timers}
 use Rattle.clock.specs.View.{slot_of, view}
 use Rattle.clock.specs.Clauses.{Comes}
@@ -21,22 +22,23 @@ or-true : (b : Bool) → b || true ≡ true
 or-true true = refl
 or-true false = refl
 
--- the sum of start and periods, where the timer is armed
+-- the sum of start and periods
 module _ (t : Timers) (k n : ℕ) (c : Comes t 2) (h : t.arming.start ≤ 65535) (l : n ≤ 65535) where
   abbrev start : ℕ
   start = t.arming.start
 
-  module _ (count : ℕ) (e : count ≡ lost k (start_given (view t).arming) n) (w : (k < start) ⊎ (0 < n)) where
+  module _ (count : ℕ) (e : count ≡ lost k (start_given (view t).arming) n) where
     counted : start + count * n ≡ start + lost k start n * n
     counted = ap (λ j. start + j * n) (e ∙ ap (λ s. lost k s n) (start_kept t c))
 
+    -- soon enough also where nothing is armed: then there is no period
     sum-soon : start + count * n ≤ k + 65535
-    sum-soon = omega (arith, counted, (armed_soon k start n h l w).soon)
+    sum-soon = elim (equal? n 0) [ inl z ↦ rw z (omega (arith, h)) | inr d ↦ omega (arith, counted, (armed_soon k start n h l (inr (omega (arith, d)))).soon) ]
 
     -- it is above the tick number, so not 0
-    armed-slot : (expiry : ℕ) → expiry ≡ start + count * n → slot_of expiry n ≡ armed_at k start n
+    armed-slot : (k < start) ⊎ (0 < n) → (expiry : ℕ) → expiry ≡ start + count * n → slot_of expiry n ≡ armed_at k start n
     unfolding armed_at
-    armed-slot expiry q = is_armed_lem n (λ z. omega (arith, counted, (armed_soon k start n h l w).later)) ∙ ap (λ x. some (timer x n)) (q ∙ counted) ∙ sym (go w)
+    armed-slot w expiry q = is_armed_lem n (λ z. omega (arith, counted, (armed_soon k start n h l w).later)) ∙ ap (λ x. some (timer x n)) (q ∙ counted) ∙ sym (go w)
       where
         go : (k < start) ⊎ (0 < n) → armed_at k start n ≡ some (timer (start + lost k start n * n) n)
         go (inl i) = rw (lt-ltb k start i)
@@ -54,10 +56,6 @@ module _ (t : Timers) (k n : ℕ) (c : Comes t 2) (h : t.arming.start ≤ 65535)
 abbrev begin : goal.Joined-then-now-start → goal.Start
 begin j = j.before.before.before.before.before
 
--- the timer is armed: its start is above the tick number, or it has a period
-is-armed-now : (j : goal.Joined-then-now-start) → (let a = (begin j).args in (a.now.0 < a.self.arming.start) ⊎ (0 < a.period))
-is-armed-now j = let a = (begin j).args in elim j.then-now-start.branch [ then-now-start-via-then-now-start u ↦ inl u.if-now-start.true | then-now-start-via-else-now-start+then-period-gt0 u ↦ inr (ltb-true 0 a.period u.if-period-gt0.true-raw) ]
-
 -- both have two bytes
 short : (c : goal.After-lost-count) → (let a = (begin c.before).args in (a.self.arming.start ≤ 65535) × (a.period ≤ 65535))
 short c = (omega arith, omega arith)
@@ -66,7 +64,7 @@ soon : (c : goal.After-lost-count) → (let a = (begin c.before).args in a.self.
 soon c =
     let s = begin c.before in
     let a = s.args in
-    sum-soon a.self a.now.0 a.period s.requires.0 (short c).0 (short c).1 c.lost-count.result c.lost-count.ensures (is-armed-now c.before)
+    sum-soon a.self a.now.0 a.period s.requires.0 (short c).0 (short c).1 c.lost-count.result c.lost-count.ensures
 
 pub overflow_mul-count : goal.overflow_mul-count
 overflow_mul-count c = omega (arith, (begin (goal.at.overflow_mul-count c).Joined-then-now-start).requires.1, soon (goal.at.overflow_mul-count c).After-lost-count)
@@ -80,7 +78,10 @@ returns-then-now-start c =
     let a = s.args in
     let h = (short (goal.at.returns-then-now-start c).After-lost-count).0 in
     let n = (short (goal.at.returns-then-now-start c).After-lost-count).1 in
-    armed-slot a.self a.now.0 a.period s.requires.0 h n c.lost-count.result c.lost-count.ensures (is-armed-now (goal.at.returns-then-now-start c).Joined-then-now-start) c.plus-expiry.result.0 c.plus-expiry.ensures
+    -- the timer is armed: its start is above the tick number, or it has a period
+    let armed : (a.now.0 < a.self.arming.start) ⊎ (0 < a.period) =
+    elim c.then-now-start.branch [ then-now-start-via-then-now-start u ↦ inl u.if-now-start.true | then-now-start-via-else-now-start+then-period-gt0 u ↦ inr (ltb-true 0 a.period u.if-period-gt0.true-raw) ] in
+    armed-slot a.self a.now.0 a.period s.requires.0 h n c.lost-count.result c.lost-count.ensures armed c.plus-expiry.result.0 c.plus-expiry.ensures
     ∙ given-start a.self a.now.0 a.period s.requires.0 h n
 
 pub returns-else-period-gt0 : goal.returns-else-period-gt0
