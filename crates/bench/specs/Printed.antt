@@ -1,6 +1,7 @@
 -- What the program writes of its standard input, as bytes: the dump to standard output; on a refusal nothing there, and one line to standard
 -- error.
-use Rattle.std.specs.Prelude.{List, [], ◌∷◌, ℕ, length, take}
+use Rattle.std.specs.Prelude.{List, [], ◌∷◌, ℕ, length, take, Option, None, Some}
+use Rattle.arrayvec.specs.ArrayVec.{ArrayVec}
 use Rattle.kernel.specs.Answers.{Answer, refused, wrote, bytes_for, answer, output}
 use Rattle.streams.specs.Text.{ascii, decimal, line}
 use Rattle.streams.specs.Input.{plan_in, behind_plan}
@@ -27,3 +28,8 @@ line_of (refused number) = line (ascii "refused" ∷ decimal number ∷ [])
 
 abbrev pub to_error : (input : List ℕ) (space : ℕ) → List ℕ
 to_error input space = line_of (answered input space)
+
+-- a text, if there is one
+abbrev pub bytes_of : Option (ArrayVec ℕ) → List ℕ
+bytes_of None = []
+bytes_of (Some text) = text.items

@@ -2,29 +2,21 @@
 // line to standard error.
 #![tactic(auto)]
 
-ghost use Rattle.std.specs.Prelude.{◌≡◌, length, take};
-ghost use Rattle.io.specs.Counts.{IsPrefixLen};
+ghost use Rattle.std.specs.Prelude.{◌≡◌, [], length, take, replicate, IfSome, IfOk, OnOk, MatchResult};
+ghost use Rattle.std.specs.Io.{ReadsAtMost};
+ghost use Rattle.std.specs.Io.KnownBytes.{Appends};
 ghost use Rattle.kernel.specs.Answers.{answer_of};
-ghost use Rattle.bench.specs.Printed.{answered, filled, to_output, to_error};
+ghost use Rattle.bench.specs.Printed.{answered, filled, to_output, to_error, bytes_of};
 
-use kernel::bench::{Written, bench};
+use kernel::bench::{Refusal, bench};
 use plan::input::plan_length;
+use std::io::{Read, Write};
+use streams::failure::Failure;
 use streams::input::read_input;
-use streams::text::one_number;
-
-const STANDARD_OUTPUT: i32 = 1;
-
-const STANDARD_ERROR: i32 = 2;
-
-// How many bytes go to standard output and to standard error.
-#[derive(Clone, Copy)]
-struct Sizes {
-    dump: usize,
-    line: usize,
-}
+use streams::text::{Text, line};
 
 // The plan in front, the call list behind it.
-fn answer(input: &[u8], out: &mut [u8]) -> Written
+fn answer(input: &[u8], out: &mut [u8]) -> Result<usize, Refusal>
     ensures result_value { answer_of result ≡ answered input.now (length out.old) }
     ensures out_after { out.new ≡ filled input.now out.old }
 {
@@ -32,42 +24,43 @@ fn answer(input: &[u8], out: &mut [u8]) -> Written
     bench(&input[..k], &input[k..], out)
 }
 
-// All that is written of an input. Rules out a dump cut short, a refusal with another word, and one without its end.
-fn written(input: &[u8], out: &mut [u8], line: &mut [u8; 64]) -> Sizes
-    ensures prefix_len { IsPrefixLen result.dump out.new × IsPrefixLen result.line line.new }
-    ensures out_after { take result.dump out.new ≡ to_output input.now out.old }
-    ensures line_after { take result.line line.new ≡ to_error input.now (length out.old) }
+// All that is written of an input: so many bytes of the output, or a line for standard error. Rules out a dump cut short, a refusal with
+// another word, and one without its end.
+fn written(input: &[u8], out: &mut [u8]) -> Result<usize, Text>
+    ensures prefix_len { ReadsAtMost result out.new }
+    ensures out_after { MatchResult result (λ size. take size out.new ≡ to_output input.now out.old) (λ _. to_output input.now out.old ≡ []) }
+    ensures line_after { MatchResult result (λ _. to_error input.now (length out.old) ≡ []) (λ text. text.items ≡ to_error input.now (length out.old)) }
 {
     match answer(input, out) {
-        Written::Refused(question) => {
-            let n = one_number(b"refused", question as u64, line);
-            Sizes { dump: 0, line: n }
-        }
-        Written::Wrote(records) => Sizes {
-            dump: 2 + 3 * records,
-            line: 0,
-        },
+        Ok(records) => Ok(2 + 3 * records),
+        Err(refusal) => Err(line(b"refused", &[refusal.number() as u64])),
     }
 }
 
-// What fills the buffer is answered like the whole input (proofs/Cut.antt), and every dump fits the output (proofs/Room.antt). There is no
-// exit status to tell a failure by. Of dump and line one is empty, and of an empty one nothing is written.
+// The whole program, whatever it reads from and writes to; the line for standard error, where there is one. What fills the buffer is answered
+// like the whole input (proofs/Cut.antt), and every dump fits the output (proofs/Room.antt).
+fn run<R: Read, W: Write>(reader: &mut R, writer: &mut W) -> Result<Option<Text>, Failure>
+    ensures output { OnOk result (IfSome (R.remaining reader.old)
+        (λ input. Appends (W.contents writer.old) (W.contents writer.new) (to_output input (replicate 65536 0)))) }
+    ensures line { IfOk result (λ line. IfSome (R.remaining reader.old) (λ input. bytes_of line ≡ to_error input 65536)) }
+{
+    let mut input = [0; 65536];
+    let size = read_input(reader, &mut input).map_err(|_| Failure::Read)?;
+    let mut out = [0; 65536];
+    match written(&input[..size], &mut out) {
+        Ok(dump) => {
+            writer.write_all(&out[..dump]).map_err(|_| Failure::Write)?;
+            Ok(None)
+        }
+        Err(text) => Ok(Some(text)),
+    }
+}
+
+// A failure is told by a line alone: the exit status stays 0.
 fn main(rt: HostRuntime) {
-    let mut stdin = rt.stdin();
-    let mut input = io::large_buffer();
-    let got = read_input(&mut stdin, &mut input);
-    if got.failed {
-        io::write_all(STANDARD_ERROR, b"bench: cannot read standard input\n");
-        return;
-    }
-    let n = got.size;
-    let mut out = io::large_buffer();
-    let mut line = [0u8; 64];
-    let sizes = written(&input[..n], &mut out, &mut line);
-    let dump = sizes.dump;
-    let text = sizes.line;
-    if !io::write_all(STANDARD_OUTPUT, &out[..dump]) {
-        io::write_all(STANDARD_ERROR, b"bench: cannot write standard output\n");
-    }
-    io::write_all(STANDARD_ERROR, &line[..text]);
+    let _ = match run(&mut rt.stdin(), &mut rt.stdout()) {
+        Ok(None) => Ok(()),
+        Ok(Some(text)) => rt.stderr().write_all(text.as_slice()),
+        Err(failure) => eprintln!(rt; "bench: {failure}"),
+    };
 }

@@ -1,21 +1,25 @@
 -- What the slots of the timers are: what stands where, and what a change of one entry changes.
-use mathlib.Core.Path.{◌≡◌, ap, ap₂, ◌∙◌}
-use mathlib.Core.Logic.{◌≢◌}
+use mathlib.Core.Path.{◌≡◌, refl, sym, ap, ap₂, ◌∙◌}
+use mathlib.Core.Logic.{◌⊎◌, inl, inr, ◌≢◌}
+use mathlib.Core.Bool.{Bool, true, false, cond, not}
 use mathlib.Core.List.{List, [], ◌∷◌, map}
 use mathlib.Core.Option.{Option, none, some}
 use Prim.Native.Nat.{ℕ, zero, suc, ◌≤◌, ◌<◌}
 use native.Mathlib.Omega.{arith}
 use borrow.Author.Tests.{eq-eqb, ne_eqb}
+use lib.Dec.{eqb}
 use lib.ListN.{length, get_or, set}
 use lib.Seq.{get_or-set_same, get_or-set_other}
+use Rattle.std.specs.Prelude as std
+use Rattle.std.specs.Prelude.{Some, None, IfSome, unwrap_or}
 use Rattle.model.specs.Searches.{up_to}
 use Rattle.model.specs.Records.{timer_count}
-use Rattle.model.specs.Timers.{Timer, timer, slot}
-use Rattle.model.specs.Formed.{last_wake}
+use Rattle.model.specs.Timers.{Timer, timer, slot, is_armed, expires_at}
+use Rattle.model.proofs.Tests.{equal?}
 use Rattle.model.proofs.Loops.{listed, changed_at}
 use Rattle.clock.specs.declared.time.Tick.{Tick}
 use Rattle.clock.specs.declared.timers.Timers.{Timers}
-use Rattle.clock.specs.View.{number_at, slot_of, slot_in, view}
+use Rattle.clock.specs.View.{number_at, slot_of, slot_from, slot_in, view}
 use Rattle.clock.specs.Clauses.{soonest}
 
 -- the eight slots, each made of its own entries
@@ -30,6 +34,31 @@ not_armed {e} n z = rw (eq-eqb e 0 z)
 
 pub is_armed_lem : {e : ℕ} (n : ℕ) → e ≢ 0 → slot_of e n ≡ some (timer e n)
 is_armed_lem {e} n d = rw (ne_eqb e 0 d)
+
+-- what the tests of an entry ask of its slot
+
+armed_test : (b : Bool) (t : Timer) → not b ≡ is_armed (cond b none (some t))
+armed_test true t = refl
+armed_test false t = refl
+
+pub armed_entry : (t : Timers) (i : ℕ) → i < timer_count → not (eqb (number_at t.expiries i) 0) ≡ is_armed (slot (view t) i)
+armed_entry t i h = armed_test (eqb (number_at t.expiries i) 0) _ ∙ sym (ap is_armed (slot_at t i h))
+
+-- at a tick number above 0 no timer expires that is not armed
+pub expiring_entry : (t : Timers) (i k : ℕ) → i < timer_count → 0 < k → eqb (number_at t.expiries i) k ≡ expires_at k (slot (view t) i)
+expiring_entry t i k h n = go (equal? e 0) ∙ sym (ap (expires_at k) (slot_at t i h))
+  where
+    e : ℕ
+    e = number_at t.expiries i
+
+    go : (e ≡ 0) ⊎ (e ≢ 0) → eqb e k ≡ expires_at k (slot_in t i)
+    go (inl z) = ne_eqb e k (λ q. omega arith) ∙ sym (ap (expires_at k) (not_armed (get_or t.periods i 0) z))
+    go (inr d) = sym (ap (expires_at k) (is_armed_lem (get_or t.periods i 0) d))
+
+-- an expiry that is stored, 0 for none, makes the slot that it stands for
+pub stored_slot : (o : std.Option Tick) (n k : ℕ) → IfSome o (λ e. k < e.0) → slot_of (unwrap_or o (record { 0 = 0 })).0 n ≡ slot_from o n
+stored_slot None n k h = refl
+stored_slot (Some e) n k h = is_armed_lem n (λ z. omega arith)
 
 -- the number of an entry after one is stored
 
@@ -51,12 +80,7 @@ slots_set t i e periods h kept =
     (λ k d. ap₂ slot_of (number_other t.expiries i k e d) (kept k d))
     ∙ ap (λ n. set (view t).slots i (slot_of n (get_or periods i 0))) (number_same t.expiries i e h)
 
--- the soonest is at most the greatest number, and at most every expiry
-
-pub soonest_last : (ts : List (Option Timer)) → soonest ts ≤ last_wake
-soonest_last [] = omega arith
-soonest_last (none ∷ ts) = soonest_last ts
-soonest_last (some t ∷ ts) = omega (arith, soonest_last ts)
+-- the soonest is at most every expiry
 
 pub soonest_least : (ts : List (Option Timer)) (i : ℕ) (u : Timer) → get_or ts i none ≡ some u → soonest ts ≤ u.expiry
 soonest_least [] i u e = absurd (no_timer u e)

@@ -1,11 +1,10 @@
 -- How far an arming has come, and what it was given, by its number: where it is in progress, it is of one of the eight timers.
-use mathlib.Core.Path.{◌≡◌, refl, ap, sym, ◌∙◌}
+use mathlib.Core.Path.{◌≡◌, ap, sym, ◌∙◌}
 use mathlib.Core.Logic.{◌⊎◌, inl, inr, ◌≢◌}
-use mathlib.Core.Bool.{Bool, true, false, cond}
 use Prim.Native.Nat.{◌<◌}
 use native.Mathlib.Omega.{arith}
 use borrow.Author.Tests.{ne_eqb}
-use lib.Dec.{T, eqb, ltb→lt}
+use lib.Dec.{T, ltb→lt}
 use Rattle.model.specs.Timers as model
 use Rattle.model.specs.Timers.{no_arming, after_arm, after_start, is_complete, timer_given, start_given}
 use Rattle.model.specs.Rules.{stage}
@@ -26,16 +25,6 @@ module _ (a : Arming) where
   -- any other number stands for a timer that there is not
   no_other : a.stage ≢ 0 → a.stage ≢ 1 → a.stage ≢ 2 → arming_of a ≡ after_arm 255
   no_other p q r = rw (ne_eqb a.stage 0 p, ne_eqb a.stage 1 q, ne_eqb a.stage 2 r)
-
-  -- it is complete at stage 0 alone
-  pub complete_stage : eqb a.stage 0 ≡ is_complete (arming_of a)
-  complete_stage = go (eqb a.stage 0) (eqb a.stage 1) (eqb a.stage 2)
-    where
-      go : (p q r : Bool) → p ≡ is_complete (cond p no_arming (cond q (after_arm a.timer) (cond r (after_start a.timer a.start) (after_arm 255))))
-      go true q r = refl
-      go false true r = refl
-      go false false true = refl
-      go false false false = refl
 
   stands : T (arming_in_range (arming_of a)) → Stands a (arming_of a)
   stands t = go (equal? a.stage 0) (equal? a.stage 1) (equal? a.stage 2)
@@ -61,14 +50,6 @@ given_in_range (after_arm i) t = ltb→lt i 8 t
 given_in_range (after_start i s) t = ltb→lt i 8 t
 
 module _ (t : Timers) where
-  pub after_arm_lem : Comes t 1 → (view t).arming ≡ after_arm t.arming.timer
-  after_arm_lem c = go (stands t.arming c.known)
-    where
-      go : Stands t.arming (arming_of t.arming) → arming_of t.arming ≡ after_arm t.arming.timer
-      go (idle p e) = absurd (omega (arith, stage_number t.arming c.known, c.stage'))
-      go (begun p e) = e
-      go (started p e) = absurd (omega (arith, stage_number t.arming c.known, c.stage'))
-
   pub after_start_lem : Comes t 2 → (view t).arming ≡ after_start t.arming.timer t.arming.start
   after_start_lem c = go (stands t.arming c.known)
     where

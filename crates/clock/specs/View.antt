@@ -1,5 +1,6 @@
 -- Which timers of the model the code's numbers stand for.
-use Rattle.std.specs.Prelude.{cond, List, map, ℕ, eqb, get_or}
+use Rattle.std.specs.Prelude as std
+use Rattle.std.specs.Prelude.{Some, None, cond, List, map, ℕ, eqb, get_or}
 use Rattle.std.proofs.Math.Option.{Option, none, some}
 use Rattle.model.specs.Searches.{up_to}
 use Rattle.model.specs.Records.{timer_count}
@@ -16,6 +17,11 @@ number_at numbers i = (get_or numbers i (record { 0 = 0 })).0
 -- a timer whose next expiry is 0 is not armed: no timer expires at tick number 0
 abbrev pub slot_of : (expiry period : ℕ) → Option Timer
 slot_of e n = cond (eqb e 0) none (some (timer e n))
+
+-- the slot of an expiry that may be none
+abbrev pub slot_from : std.Option Tick → (period : ℕ) → Option Timer
+slot_from None n = none
+slot_from (Some e) n = some (timer e.0 n)
 
 abbrev pub slot_in : Timers → (i : ℕ) → Option Timer
 slot_in t i = slot_of (number_at t.expiries i) (get_or t.periods i 0)

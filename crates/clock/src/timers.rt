@@ -1,11 +1,11 @@
 // The eight timers, and the arming of one.
-ghost use Rattle.std.specs.Prelude.{◌≡◌, cond, ◌≤◌, ◌<◌, T, eqb, ltb};
+ghost use Rattle.std.specs.Prelude.{◌≡◌, cond, ◌≤◌, ◌<◌, T, eqb, ltb, IfSome};
 ghost use Rattle.std.proofs.Math.Option.{none};
 ghost use Rattle.model.specs.Records.{timer_count, Period};
 ghost use Rattle.model.specs.Rules.{stage};
 ghost use Rattle.model.specs.Timers.{no_timers, is_complete, after_arm, after_start, timer_given, slot, is_armed, set_slot, set_arming, set_timer, start_given, lost, armed_at, expires_at, timer, again, move_on};
 ghost use Rattle.model.specs.Formed.{last_tick, last_wake, arming_in_range};
-ghost use Rattle.clock.specs.View.{view, slot_of};
+ghost use Rattle.clock.specs.View.{view, slot_from};
 ghost use Rattle.clock.specs.Clauses.{kind_place, Comes, soonest};
 
 use crate::time::{LAST_WAKE, Tick, Wait};
@@ -13,8 +13,11 @@ use crate::time::{LAST_WAKE, Tick, Wait};
 // Timers 0 to 7.
 pub const TIMERS: usize = 8;
 
+// The expiry of a timer that is not armed, since no timer expires at tick number 0.
+const UNARMED: Tick = Tick(0);
+
 // How far an arming has come: 0 where none is in progress, 1 after Arm, 2 after Start; with the timer and the start that it was given. A start is
-// a tick number of two bytes.
+// a tick number of two bytes. C lends it, with whatever numbers: so the stage is a byte.
 #[repr(C)]
 #[derive(Clone, Copy)]
 pub struct Arming {
@@ -39,7 +42,7 @@ impl Timers {
         ensures { view result ≡ no_timers }
     {
         Timers {
-            expiries: [Tick(0); TIMERS],
+            expiries: [UNARMED; TIMERS],
             periods: [0u16; TIMERS],
             arming: Arming {
                 stage: 0,
@@ -49,7 +52,7 @@ impl Timers {
         }
     }
 
-    // 31: does a record of this kind stand where the arming has come to?
+    // 31: does a record of this kind stand where the arming has come to? The kind is a byte of a dump, which may name none.
     pub fn in_order(self, kind: u8) -> bool
         requires { T (arming_in_range (view self).arming) }
         ensures { result ≡ eqb (stage (view self).arming) (kind_place kind) }
@@ -66,18 +69,16 @@ impl Timers {
     pub fn is_complete(self) -> bool
         ensures { result ≡ is_complete (view self).arming }
     {
-        let a = self.arming;
-        a.stage == 0
+        self.arming.stage == 0
     }
 
     // 32: is the timer armed?
+    #[tactic(auto, using(crate::proofs::Slots::armed_entry))]
     pub fn is_armed(self, timer: u8) -> bool
         requires { timer < timer_count }
         ensures { result ≡ is_armed (slot (view self) timer) }
     {
-        let all = self.expiries;
-        let expiry = all[timer as usize];
-        expiry.0 != 0
+        self.expiries[timer as usize] != UNARMED
     }
 
     // Arm: an arming has begun, of this timer. A call that is not admitted, here and below, leaves the timers as they are; it is told so, and not left
@@ -119,19 +120,18 @@ impl Timers {
         now.lost(Tick(a.start as u32), Wait(period as u32))
     }
 
-    // Period: the tick number of the first expiry to come, 0 for an alarm too late.
-    fn first_expiry(self, now: Tick, period: u16) -> Tick
+    // Period: the tick number of the first expiry to come, none for an alarm too late.
+    fn first_expiry(self, now: Tick, period: u16) -> Option<Tick>
         requires { Comes self 2 × (now.0 ≤ last_tick) }
-        ensures { slot_of result.0 period ≡ armed_at now.0 (start_given (view self).arming) period }
+        ensures slot { slot_from result period ≡ armed_at now.0 (start_given (view self).arming) period }
+        ensures later { IfSome result (λ e. now.0 < e.0) }
     {
-        let a = self.arming;
-        let start = Tick(a.start as u32);
-        let mut expiry = Tick(0);
-        if now.0 < start.0 || 0 < period {
+        let start = Tick(self.arming.start as u32);
+        if now < start || 0 < period {
             let count = self.lost(now, period);
-            expiry = start.plus(Wait(count * (period as u32)));
+            return Some(start.plus(Wait(count * (period as u32))));
         }
-        expiry
+        None
     }
 
     // Period: the timer is armed, or an alarm too late leaves it unarmed.
@@ -145,7 +145,7 @@ impl Timers {
         let mut periods = self.periods;
         if admitted {
             let i = a.timer as usize;
-            expiries[i] = self.first_expiry(now, period);
+            expiries[i] = self.first_expiry(now, period).unwrap_or(UNARMED);
             periods[i] = period;
             a.stage = 0;
         }
@@ -163,20 +163,19 @@ impl Timers {
         let mut t = self;
         let mut expiries = self.expiries;
         if admitted {
-            expiries[timer as usize] = Tick(0);
+            expiries[timer as usize] = UNARMED;
         }
         t.expiries = expiries;
         t
     }
 
     // Whether a timer expires at this tick number.
+    #[tactic(auto, using(crate::proofs::Slots::expiring_entry))]
     pub fn expires(self, timer: usize, number: Tick) -> bool
         requires { (timer < timer_count) × (0 < number.0) }
         ensures { result ≡ expires_at number.0 (slot (view self) timer) }
     {
-        let all = self.expiries;
-        let expiry = all[timer];
-        expiry.0 == number.0
+        self.expiries[timer] == number
     }
 
     // Tick: those that expire at this tick number are unarmed, or expire again a period later.
@@ -185,16 +184,12 @@ impl Timers {
         ensures { view result ≡ move_on number.0 (view self) }
     {
         let mut t = self;
-        let old = self.expiries;
         let periods = self.periods;
         let mut expiries = self.expiries;
-        let mut i: usize = 0;
-        while i < TIMERS {
-            let expiry = old[i];
-            if expiry.0 == number.0 {
-                expiries[i] = again(number, periods[i]);
+        for i in 0..TIMERS {
+            if expiries[i] == number {
+                expiries[i] = again(number, periods[i]).unwrap_or(UNARMED);
             }
-            i += 1;
         }
         t.expiries = expiries;
         t
@@ -204,17 +199,11 @@ impl Timers {
     pub fn soonest(self) -> Tick
         ensures { result.0 ≡ soonest (view self).slots }
     {
-        let all = self.expiries;
-        let mut first = LAST_WAKE;
-        let mut i: usize = 0;
-        while i < TIMERS {
-            let expiry = all[i];
-            if expiry.0 != 0 && expiry.0 < first.0 {
-                first = expiry;
-            }
-            i += 1;
-        }
-        first
+        self.expiries
+            .iter()
+            .copied()
+            .filter(|e| *e != UNARMED)
+            .fold(LAST_WAKE, |first, e| first.min(e))
     }
 
     // Whether every timer that is armed expires after this tick number: asked of all eight at once, without an early end.
@@ -222,27 +211,21 @@ impl Timers {
         requires { number.0 < last_wake }
         ensures { result ≡ ltb number.0 (soonest (view self).slots) }
     {
-        let all = self.expiries;
-        let mut pass = true;
-        let mut i: usize = 0;
-        while i < TIMERS {
-            let expiry = all[i];
-            if expiry.0 != 0 && expiry.0 <= number.0 {
-                pass = false;
-            }
-            i += 1;
-        }
-        pass
+        self.expiries
+            .iter()
+            .copied()
+            .fold(true, |pass, e| pass & (e == UNARMED || number < e))
     }
 }
 
-// The next expiry of a timer that expires now, 0 for an alarm.
-fn again(now: Tick, period: u16) -> Tick
+// The next expiry of a timer that expires now, none for an alarm.
+fn again(now: Tick, period: u16) -> Option<Tick>
     requires { (0 < now.0) × (now.0 ≤ last_tick) }
-    ensures { slot_of result.0 period ≡ again (timer now.0 period) }
+    ensures slot { slot_from result period ≡ again (timer now.0 period) }
+    ensures later { IfSome result (λ e. now.0 < e.0) }
 {
     if period == 0 {
-        return Tick(0);
+        return None;
     }
-    now.plus(Wait(period as u32))
+    Some(now.plus(Wait(period as u32)))
 }

@@ -1,16 +1,17 @@
 -- The reports due by their places: those behind the ones given.
-use mathlib.Core.Path.{◌≡◌, refl, ap, ◌∙◌}
+use mathlib.Core.Path.{◌≡◌, refl, ap, sym, ◌∙◌}
 use mathlib.Core.Logic.{◌⊎◌, inl, inr}
 use mathlib.Core.Bool.{not}
 use mathlib.Core.List.Memᴰ.{head as here}
 use mathlib.Core.List.Memᴰ.{tail as there}
-use mathlib.Core.List.{List, [], ◌∷◌, tail, Memᴰ as Mem}
+use mathlib.Core.List.{List, [], ◌∷◌, map, tail, Memᴰ as Mem}
 use Prim.Native.Nat.{ℕ, zero, suc, ◌+◌, ◌-◌, ◌≤◌, ◌<◌}
 use native.Mathlib.Numerals.{add-one}
 use native.Mathlib.Omega.{arith}
 use lib.Dec.{T, ltb, ltb→lt, nltb→le}
-use lib.ListN.{length, get_or, drop, drop_of_length-le, get_or-eq_default}
-use lib.Seq.{drop-cons, drop-drop}
+use lib.ListN.{length, get_or, take, drop, drop_of_length-le, get_or-eq_default, get_or-map, length-map, length-take}
+use lib.Seq.{drop-cons, drop-drop, ext_get_or}
+use Rattle.std.proofs.lemmas.List.{drop-take, drop-map, get_or-take}
 use Rattle.model.proofs.Tests.{split}
 use Rattle.model.proofs.Loops.{listed as entry_listed, length-listed}
 use Rattle.due.specs.declared.reports.Report.{Report}
@@ -69,3 +70,23 @@ within items i size k = go (split (ltb i report_room))
         let past : get_or items i no_report ≡ no_report = get_or-eq_default items no_report (omega (arith, nltb→le i report_room u)) in
         let z : IsReport no_report = rw past at k in
         absurd (omega (arith, z.least))
+
+-- those behind the ones given, as a slice of the array
+module _ (rs : Reports) (given : ℕ) where
+  pub due_slice : given ≤ rs.count → rs.count ≤ length rs.items → map report_of (take (rs.count - given) (drop given rs.items)) ≡ drop given (owed rs)
+  due_slice h k =
+      let n = rs.count - given in
+      let z : given + n ≡ rs.count = omega arith in
+      ap (map report_of) (sym (drop-take given n rs.items) ∙ ap (λ m. drop given (take m rs.items)) z) ∙ sym (drop-map report_of given (take rs.count rs.items)) ∙ ap (drop given) (sym whole)
+    where
+      long : length (map report_of (take rs.count rs.items)) ≡ rs.count
+      long = omega (arith, length-map (take rs.count rs.items) report_of, length-take rs.count rs.items)
+
+      whole : owed rs ≡ map report_of (take rs.count rs.items)
+      whole = ext_get_or (report_of no_report) (owed rs) (map report_of (take rs.count rs.items)) (length-owed rs ∙ sym long)
+          (λ i b. let c : i < rs.count = omega (arith, length-owed rs) in
+          entry_listed (λ j. report_of (get_or rs.items j no_report)) rs.count i (report_of no_report) c
+          ∙ sym (get_or-map report_of (take rs.count rs.items) i no_report ∙ ap report_of (get_or-take rs.count rs.items i no_report c)))
+
+  pub none_left : rs.count ≤ given → map report_of [] ≡ drop given (owed rs)
+  none_left h = sym (none_due (λ i. get_or rs.items i no_report) rs.count given h)

@@ -1,14 +1,15 @@
 -- What a report of the code stands for, by the number of its kind.
-use mathlib.Core.Path.{◌≡◌, ap, sym, ◌∙◌}
+use mathlib.Core.Path.{◌≡◌, refl, ap, sym, ◌∙◌}
 use mathlib.Core.Logic.{◌⊎◌, inl, inr, ◌≢◌}
-use mathlib.Core.Bool.{false, ◌&&◌}
+use mathlib.Core.Bool.{false, ◌&&◌, ◌||◌}
+use mathlib.Core.List.{List, [], ◌∷◌, map}
 use mathlib.Core.Option.{Option}
 use Prim.Native.Nat.{ℕ, suc, ◌%◌, ◌≤◌, ◌<◌}
 use native.Mathlib.Nat.{mod-eq_of_lt}
 use native.Mathlib.Omega.{arith}
 use borrow.Author.Tests.{ne_eqb}
 use lib.Dec.{T, eqb, ltb→lt}
-use Rattle.model.specs.Searches.{same}
+use Rattle.model.specs.Searches.{same, any}
 use Rattle.model.specs.Plan.{Plan, threads}
 use Rattle.model.specs.Records.{Switch, Yield, report, report_kind, operand, nobody, operand_thread, is_thread, allowed, is_switch, is_expire}
 use Rattle.model.specs.State.{switched_to}
@@ -125,3 +126,8 @@ same_operand a b i k =
     by_kind a (same (operand (report_of a)) (operand (report_of b)) ≡ eqb a.operand b.operand)
     (λ e. rw (← k, e)) (λ e. rw (← k, e) (same_number a.operand b.operand)) (λ e. rw (← k, e)) (λ e. rw (← k, e)) (λ e. rw (← k, e)) (λ e. rw (← k, e)) (λ e. rw (← k, e))
     (λ n e. absurd (n i))
+
+-- whether an Expire of a timer is among reports, by kind and operand
+pub expires_of : (i : ℕ) (l : List Report) → any (λ r. eqb r.kind 21 && eqb r.operand i) l ≡ any (is_expire i) (map report_of l)
+expires_of i [] = refl
+expires_of i (r ∷ l) = rw (expire_is r i) (ap (λ b. (eqb r.kind 21 && eqb r.operand i) || b) (expires_of i l))

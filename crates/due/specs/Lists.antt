@@ -5,6 +5,7 @@ use Rattle.model.specs.Records.{Ready, Switch, Won, Lost, Yield, Expire, Late, n
 use Rattle.model.specs.Records as records
 use Rattle.model.specs.Timers.{Timers, expired}
 use Rattle.model.specs.State.{without_switch}
+use Rattle.due.specs.declared.reports.Kind.{Kind}
 use Rattle.due.specs.declared.reports.Report.{Report}
 use Rattle.due.specs.declared.reports.Reports.{Reports}
 use Rattle.due.specs.declared.made.Made.{Made}
@@ -13,6 +14,16 @@ pub use Rattle.lists.specs.Lists.{numbered, thread_of}
 -- room for the reports of sixteen threads and eight timers, and a Switch
 abbrev pub report_room : ℕ
 report_room = 25
+
+-- the papers' numbers for the kinds
+abbrev pub kind_number : Kind → ℕ
+kind_number Kind.Ready = 16
+kind_number Kind.Switch = 17
+kind_number Kind.Won = 18
+kind_number Kind.Lost = 19
+kind_number Kind.Yield = 20
+kind_number Kind.Expire = 21
+kind_number Kind.Late = 22
 
 -- kinds by the papers' numbers; any other number stands for the report of a thread that no plan has
 abbrev pub report_of : Report → records.Report

@@ -1,11 +1,12 @@
 // What a call other than Tick makes due.
 ghost use Rattle.std.specs.Prelude.{[], ◌∷◌, min};
 ghost use Rattle.model.specs.Records.{Ready, Won, Late};
-ghost use Rattle.due.specs.Lists.{report_by, Tells};
+ghost use Rattle.due.specs.Lists.{kind_number, report_by, Tells};
 
-use crate::reports::Report;
+use crate::reports::{Kind, NO_REPORT, Report};
 
-// What a call other than Tick makes due before its Switch: the first `count` of two reports.
+// What a call other than Tick makes due before its Switch: the first `count` of two reports. No list: a call stores both, whatever they are, since a
+// store that depends on a test copies the rest of the array (docs/notes/trials.md, 22).
 #[derive(Clone, Copy)]
 pub struct Made {
     pub first: Report,
@@ -18,18 +19,18 @@ impl Made {
         ensures { Tells result [] }
     {
         Made {
-            first: Report::of(0, 0),
-            second: Report::of(0, 0),
+            first: NO_REPORT,
+            second: NO_REPORT,
             count: 0,
         }
     }
 
-    pub fn one(kind: u8, who: u8) -> Made
-        ensures { Tells result (report_by kind who ∷ []) }
+    pub fn one(kind: Kind, who: u8) -> Made
+        ensures { Tells result (report_by (kind_number kind) who ∷ []) }
     {
         Made {
             first: Report::of(kind, who),
-            second: Report::of(0, 0),
+            second: NO_REPORT,
             count: 1,
         }
     }
@@ -39,8 +40,8 @@ impl Made {
         ensures { Tells result (Won heir ∷ Ready heir ∷ []) }
     {
         Made {
-            first: Report::of(18, heir),
-            second: Report::of(16, heir),
+            first: Report::of(Kind::Won, heir),
+            second: Report::of(Kind::Ready, heir),
             count: 2,
         }
     }
@@ -49,14 +50,14 @@ impl Made {
     pub fn late(count: u32) -> Made
         ensures { Tells result (Late (min count 65535) ∷ []) }
     {
-        let operand = if count < 65535 { count as u16 } else { 65535 };
+        let operand = u16::try_from(count).unwrap_or(u16::MAX);
         Made {
             first: Report {
-                kind: 22,
+                kind: Kind::Late as u8,
                 spare: 0,
                 operand,
             },
-            second: Report::of(0, 0),
+            second: NO_REPORT,
             count: 1,
         }
     }

@@ -1,10 +1,11 @@
 // The reports due, in order: at most one for each thread and each timer, and a Switch. What a Tick adds joins the end.
-ghost use Rattle.std.specs.Prelude.{◌≡◌, [], ◌++◌, map, ◌+◌, ◌≤◌, ◌<◌, drop};
+ghost use Rattle.std.specs.Prelude.{◌≡◌, [], ◌++◌, map, ◌+◌, ◌≤◌, ◌<◌, ◌&&◌, eqb, drop};
+ghost use Rattle.model.specs.Searches.{any};
 ghost use Rattle.model.specs.Timers as model;
 ghost use Rattle.model.specs.State.{without_switch};
 ghost use Rattle.lists.specs.Lists.{queued};
 ghost use Rattle.clock.specs.View as timing;
-ghost use Rattle.due.specs.Lists.{report_room, switch_to, report_by, owed, TickFits, after_tick};
+ghost use Rattle.due.specs.Lists.{report_room, switch_to, kind_number, report_of, report_by, owed, TickFits, after_tick};
 
 use clock::time::Tick;
 use clock::timers::{TIMERS, Timers};
@@ -13,8 +14,20 @@ use lists::queue::Queue;
 // Room for the reports of sixteen threads and eight timers, and a Switch.
 pub const ROOM: usize = 25;
 
-// A kind by its number, 16 to 22, and its operand as in a dump: the thread that it names, 65535 for nobody; the timer of an Expire; the count of a
-// Late. The spare byte means nothing; it is named so that reports are copied whole.
+// What a report says, by the papers' numbers.
+#[derive(Clone, Copy, PartialEq, Eq)]
+pub enum Kind {
+    Ready = 16,
+    Switch = 17,
+    Won = 18,
+    Lost = 19,
+    Yield = 20,
+    Expire = 21,
+    Late = 22,
+}
+
+// The number of a kind, and the operand as in a dump: the thread that it names, 65535 for nobody; the timer of an Expire; the count of a Late. The spare
+// byte means nothing; it is named so that reports are copied whole. C lends reports, with whatever numbers: so the kind is a byte.
 #[repr(C)]
 #[derive(Clone, Copy)]
 pub struct Report {
@@ -23,6 +36,14 @@ pub struct Report {
     pub operand: u16,
 }
 
+// What stands where no report does.
+pub(crate) const NO_REPORT: Report = Report {
+    kind: 0,
+    spare: 0,
+    operand: 0,
+};
+
+// An array and how many of it are in use, since C lends it so; `due` is the slice.
 #[repr(C)]
 #[derive(Clone, Copy)]
 pub struct Reports {
@@ -32,11 +53,11 @@ pub struct Reports {
 
 impl Report {
     // The report of a thread or timer.
-    pub(crate) fn of(kind: u8, who: u8) -> Report
-        ensures { result ≡ record { kind = kind; spare = 0; operand = who } }
+    pub(crate) fn of(kind: Kind, who: u8) -> Report
+        ensures { result ≡ record { kind = kind_number kind; spare = 0; operand = who } }
     {
         Report {
-            kind,
+            kind: kind as u8,
             spare: 0,
             operand: who as u16,
         }
@@ -48,21 +69,47 @@ impl Report {
     {
         let operand = if who == 255 { 65535 } else { who as u16 };
         Report {
-            kind: 17,
+            kind: Kind::Switch as u8,
             spare: 0,
             operand,
         }
     }
+
+    // Whether it is of this kind.
+    fn is(self, kind: Kind) -> bool
+        ensures { result ≡ eqb self.kind (kind_number kind) }
+    {
+        self.kind == kind as u8
+    }
+}
+
+// Whether a report of this kind, of this thread or timer, is among these.
+fn among(due: &[Report], kind: Kind, who: u8) -> bool
+    ensures { result ≡ any (λ r. eqb r.kind (kind_number kind) && eqb r.operand who) due.now }
+{
+    due.iter().any(|r| r.is(kind) && r.operand == who as u16)
 }
 
 impl Reports {
     pub fn none() -> Reports
         ensures { owed result ≡ [] }
     {
-        let z = Report::of(0, 0);
         Reports {
-            items: [z; ROOM],
+            items: [NO_REPORT; ROOM],
             count: 0,
+        }
+    }
+
+    // Those that are due, where the first `given` are given.
+    fn due(&self, given: usize) -> &[Report]
+        requires { given < self.now.count → self.now.count ≤ report_room }
+        ensures { map report_of result.now ≡ drop given (owed self.now) }
+    {
+        let n = self.count;
+        if given < n {
+            &self.items[given..n]
+        } else {
+            &self.items[..0]
         }
     }
 
@@ -71,17 +118,7 @@ impl Reports {
         requires { given < self.count → self.count ≤ report_room }
         ensures { result ≡ model.owes_expire (drop given (owed self)) timer }
     {
-        let items = self.items;
-        let n = self.count;
-        let mut i: usize = given;
-        while i < n {
-            let r = items[i];
-            if r.kind == 21 && r.operand == timer as u16 {
-                return true;
-            }
-            i += 1;
-        }
-        false
+        among(self.due(given), Kind::Expire, timer)
     }
 
     // The timers whose tick number this is and of which no Expire is due, lower timer first, where the first `given` reports are given.
@@ -89,13 +126,12 @@ impl Reports {
         requires { (0 < number.0) × (given < self.count → self.count ≤ report_room) }
         ensures { queued result ≡ model.expired number.0 (drop given (owed self)) (timing.view timers) }
     {
+        let due = self.due(given);
         let mut out = Queue::none();
-        let mut i: usize = 0;
-        while i < TIMERS {
-            if timers.expires(i, number) && !self.owes_expire(given, i as u8) {
+        for i in 0..TIMERS {
+            if timers.expires(i, number) && !among(due, Kind::Expire, i as u8) {
                 out = out.push(i as u8);
             }
-            i += 1;
         }
         out
     }
@@ -105,37 +141,26 @@ impl Reports {
         requires { given < self.count → self.count ≤ report_room }
         ensures { owed result ≡ without_switch (drop given (owed self)) }
     {
-        let all = self.items;
-        let count = self.count;
-        let z = Report::of(0, 0);
-        let mut items = [z; ROOM];
+        let mut items = [NO_REPORT; ROOM];
         let mut n: usize = 0;
-        let mut i: usize = given;
-        while i < count {
-            let r = all[i];
-            if r.kind != 17 {
-                items[n] = r;
+        for r in self.due(given) {
+            if !r.is(Kind::Switch) {
+                items[n] = *r;
                 n += 1;
             }
-            i += 1;
         }
         Reports { items, count: n }
     }
 
     // A report of this kind more at the end for each of these. Here and above the array is a variable of the loop: in a function that stores one report and
     // hands the array back, it would be copied for each.
-    fn joined(self, kind: u8, who: Queue) -> Reports
+    fn joined(self, kind: Kind, who: Queue) -> Reports
         requires { (who.count ≤ 16) × (self.count + who.count ≤ report_room) }
-        ensures { owed result ≡ owed self ++ map (report_by kind) (queued who) }
+        ensures { owed result ≡ owed self ++ map (report_by (kind_number kind)) (queued who) }
     {
         let mut items = self.items;
         let mut n = self.count;
-        let mut rest = who.items;
-        let mut left = who.count;
-        while 0 < left {
-            let t = (rest % 16) as u8;
-            rest = rest / 16;
-            left -= 1;
+        for t in who.iter() {
             let r = Report::of(kind, t);
             items[n] = r;
             n += 1;
@@ -151,7 +176,7 @@ impl Reports {
     {
         let ended = self.expired(given, timers, number);
         self.without_switch(given)
-            .joined(21, ended)
-            .joined(16, woken)
+            .joined(Kind::Expire, ended)
+            .joined(Kind::Ready, woken)
     }
 }

@@ -1,11 +1,13 @@
 -- Questions 5 to 8, asked of a dump and of a call list. T and S are those of the plan.
-use Rattle.std.specs.Prelude.{◌≡◌, Bool, false, cond, ◌||◌, ◌&&◌, List, [], ◌∷◌, ℕ, ◌+◌, ◌*◌, ◌≤◌, eqb, leb, ltb, length}
-use Rattle.std.proofs.Math.Option.{Option}
+use Rattle.std.specs.Prelude.{◌≡◌, Bool, false, cond, ◌||◌, ◌&&◌, List, [], ◌∷◌, ℕ, ◌+◌, ◌*◌, ◌≤◌, eqb, leb, ltb, length, Result, Ok, Err}
+use Rattle.std.proofs.Math.Option.{Option, none, some}
 use Rattle.model.specs.Searches.{all, up_to}
 use Rattle.model.specs.Records.{timer_count, nobody}
 use Rattle.model.specs.Rules.{Question, ◌asks◌, first_no}
 use Rattle.plan.specs.Bytes.{between}
 use Rattle.dump.specs.Layout.{record_count, kind_at, operand_at}
+use Rattle.dump.specs.declared.questions.Refusal.{Refusal}
+use Rattle.dump.specs.declared.questions.Refusal.TheVariants.{Count, Length, Kinds, Operands}
 
 -- the greatest number of records
 abbrev pub most_records : ℕ
@@ -61,6 +63,18 @@ questions threads sections calls_only bytes = 5 asks has_count bytes ∷ 6 asks 
 -- The first No gives its number.
 unfoldable pub refusal : (threads sections : ℕ) (calls_only : Bool) → List ℕ → Option ℕ
 refusal threads sections calls_only bytes = first_no (questions threads sections calls_only bytes)
+
+-- the number of the question that a refusal names
+abbrev pub question : Refusal → ℕ
+question Count = 5
+question Length = 6
+question Kinds = 7
+question Operands = 8
+
+-- what an answer refuses, by the number of the question
+abbrev pub refused : {A : Type 0} → Result A Refusal → Option ℕ
+refused (Ok a) = none
+refused (Err r) = some (question r)
 
 -- what the answer Yes to questions 5 and 6 says in numbers
 pub record Whole (bytes : List ℕ) : Type 0 where

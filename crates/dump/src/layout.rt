@@ -5,7 +5,7 @@ ghost use Rattle.dump.specs.Questions.{most_records, Whole};
 
 use plan::words::word_at;
 
-// A record's two numbers.
+// A record's two numbers, as the bytes have them: that they name a kind is asked of them.
 #[derive(Clone, Copy)]
 pub struct Entry {
     pub kind: u8,

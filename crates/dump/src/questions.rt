@@ -1,7 +1,7 @@
 // Questions 5 to 8.
 ghost use Rattle.std.specs.Prelude.{◌≡◌, ◌&&◌, ◌≤◌, length};
-ghost use Rattle.plan.specs.Bytes.{between, number};
-ghost use Rattle.dump.specs.Questions.{kind_allowed, call_fits, report_fits, operand_fits, has_count, has_length, has_kinds, has_operands, refusal, Whole};
+ghost use Rattle.plan.specs.Bytes.{between};
+ghost use Rattle.dump.specs.Questions.{kind_allowed, call_fits, report_fits, operand_fits, has_count, has_length, has_kinds, has_operands, refusal, question, refused, Whole};
 ghost use Rattle.dump.specs.Operands.{below, admits, Exact, record_fits, Tabled};
 
 use crate::layout::{first_operand, kind_at, record_count};
@@ -35,7 +35,7 @@ impl Bounds {
     fn below(count: usize) -> Bounds
         ensures { result ≡ below count }
     {
-        let end = if count < 65536 { count as u32 } else { 65536 };
+        let end = count.min(65536) as u32;
         Bounds {
             end,
             low: 0,
@@ -66,7 +66,7 @@ impl Bounds {
     }
 }
 
-// The operand rule of a call.
+// The operand rule of a call: a decision over the kind byte, the form that document 01 names.
 fn call_bounds(threads: usize, sections: usize, kind: u8) -> Bounds
     ensures { Exact result (call_fits threads sections kind) }
 {
@@ -132,11 +132,9 @@ fn bounds_table(threads: usize, sections: usize, list: bool) -> [Bounds; 32]
 {
     let none = Bounds::below(0);
     let mut table = [none; 32];
-    let mut k: usize = 0;
-    while k < 32 {
+    for k in 0..32 {
         let b = bounds_for(threads, sections, list, k as u8);
         table[k] = b;
-        k += 1;
     }
     table
 }
@@ -165,13 +163,10 @@ fn has_kinds(list: bool, bytes: &[u8]) -> bool
     requires { Whole bytes.now }
     ensures { result ≡ has_kinds list bytes.now }
 {
-    let n = record_count(bytes);
-    let mut i: usize = 0;
-    while i < n {
+    for i in 0..record_count(bytes) {
         if !kind_allowed(list, kind_at(bytes, i)) {
             return false;
         }
-        i += 1;
     }
     true
 }
@@ -184,9 +179,9 @@ fn has_records(threads: usize, sections: usize, list: bool, bytes: &[u8]) -> boo
 {
     let n = record_count(bytes);
     let table = bounds_table(threads, sections, list);
-    let mut i: usize = 0;
-    let mut running: usize = first_operand(n);
-    while i < n {
+    // Document 02's running place, moved on by two for each record.
+    let mut running = first_operand(n);
+    for i in 0..n {
         let e = entry_at(bytes, i, running);
         let k = e.kind as usize;
         if 32 <= k {
@@ -195,28 +190,45 @@ fn has_records(threads: usize, sections: usize, list: bool, bytes: &[u8]) -> boo
         if !table[k].admits(e.operand) {
             return false;
         }
-        i += 1;
         running += 2;
     }
     true
 }
 
-// Questions 5 to 8: the number of the first No, 0 if there is none. Where a record fails 7 or 8, all are asked 7 before 8 is answered. Rules
-// out refusing all, and naming a later No.
-pub fn refusal(threads: usize, sections: usize, list: bool, bytes: &[u8]) -> u8
-    ensures { result ≡ number (refusal threads sections list bytes.now) }
+// What refuses a dump or call list: the question among 5 to 8 with the first No.
+#[derive(Clone, Copy, Debug, PartialEq, Eq)]
+pub enum Refusal {
+    Count = 5,
+    Length = 6,
+    Kinds = 7,
+    Operands = 8,
+}
+
+impl Refusal {
+    // The number of the question. Rules out one number for all, and numbers that count from 1.
+    pub fn number(self) -> u8
+        ensures { result ≡ question self }
+    {
+        self as u8
+    }
+}
+
+// Questions 5 to 8, in their order: the first No refuses. Where a record fails 7 or 8, all are asked 7 before 8 is answered. Rules out refusing all,
+// and naming a later No.
+pub fn ask(threads: usize, sections: usize, list: bool, bytes: &[u8]) -> Result<(), Refusal>
+    ensures { refused result ≡ refusal threads sections list bytes.now }
 {
     if !has_count(bytes) {
-        return 5;
+        return Err(Refusal::Count);
     }
     if !has_length(bytes) {
-        return 6;
+        return Err(Refusal::Length);
     }
     if has_records(threads, sections, list, bytes) {
-        return 0;
+        return Ok(());
     }
     if !has_kinds(list, bytes) {
-        return 7;
+        return Err(Refusal::Kinds);
     }
-    8
+    Err(Refusal::Operands)
 }

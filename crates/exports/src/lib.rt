@@ -9,9 +9,9 @@ ghost use Rattle.exports.specs.Numbers.{verdict_number, verdict_at, verdict_due,
 ghost use Rattle.exports.specs.Clauses.{Tells, Begins, Steps};
 ghost use Rattle.exports.specs.Abi.{abi};
 
-use kernel::bench::{Written, bench};
+use kernel::bench::bench;
 use live::lent;
-use live::live::{Begun, Reply, Watch, begin};
+use live::live::{Reply, Watch, begin};
 use monitor::check::{Verdict, check};
 
 // The number of this interface, which the header and the Rust wrapper name too: a caller with another one has another layout of the watch
@@ -32,16 +32,16 @@ pub extern "C" fn beltcairn_check(plan: &[u8], dump: &[u8], at: &mut u64, due: &
     ensures due_after { due.new ≡ verdict_due (check plan.now dump.now) due.old }
 {
     match check(plan, dump) {
-        Verdict::Refused(question) => question,
-        Verdict::Clean(records, owed) => {
+        Ok(Verdict::Clean { records, due: owed }) => {
             *at = records as u64;
             *due = owed as u64;
             0
         }
-        Verdict::Breach(record, rule) => {
+        Ok(Verdict::Breach { record, rule }) => {
             *at = record as u64;
-            rule
+            rule.number()
         }
+        Err(refusal) => refusal.number(),
     }
 }
 
@@ -54,26 +54,12 @@ pub extern "C" fn beltcairn_bench(plan: &[u8], list: &[u8], out: &mut [u8], reco
     ensures records_after { records.new ≡ written_records (answer plan.now list.now (length out.old)) records.old }
 {
     match bench(plan, list, out) {
-        Written::Refused(question) => question,
-        Written::Wrote(n) => {
+        Ok(n) => {
             *records = n as u64;
             0
         }
+        Err(refused) => refused.number(),
     }
-}
-
-// The question that refuses a plan, 0 if there is none; where one does, the watch state that came comes back.
-fn begun(plan: &[u8], old: Watch) -> Begun
-    ensures { Begins result.refused result.watch old plan.now }
-{
-    let b = begin(plan);
-    if b.refused != 0 {
-        return Begun {
-            refused: b.refused,
-            watch: old,
-        };
-    }
-    b
 }
 
 // The watch state of a plan. 0: made. 1 to 4: that question refuses. Rules out a state left alone where the plan passes, and a refused plan
@@ -82,9 +68,14 @@ fn begun(plan: &[u8], old: Watch) -> Begun
 pub extern "C" fn beltcairn_begin(plan: &[u8], watch: &mut Watch) -> u8
     ensures { Begins result watch.new watch.old plan.now }
 {
-    let b = begun(plan, *watch);
-    *watch = b.watch;
-    b.refused
+    let begun = begin(plan);
+    match begun.refused {
+        Some(refusal) => refusal.number(),
+        None => {
+            *watch = begun.watch;
+            0
+        }
+    }
 }
 
 // The number of a step's answer, and the reports due where it is clean.
@@ -92,7 +83,7 @@ fn tell(reply: Reply, due: &mut u64) -> u8
     ensures { Tells result due.new due.old reply }
 {
     match reply {
-        Reply::Refused(question) => question,
+        Reply::Refused(asked) => asked.number(),
         Reply::Clean(count) => {
             *due = count as u64;
             0

@@ -4,5 +4,5 @@ mod Bits
 mod Calm
 mod Outside
 mod Reported
-mod Timing
 mod Keeping
+mod Slices

@@ -1,14 +1,14 @@
 -- Answer 12, question by question: what the tests of a state that came from outside say of its numbers, its counts and its threads.
 use mathlib.Core.Path.{◌≡◌, refl, ap, sym, subst, ◌∙◌}
 use mathlib.Core.Logic.{◌⊎◌, inl, inr, ◌≢◌}
-use mathlib.Core.Bool.{Bool, true, false, cond, not, ◌&&◌}
+use mathlib.Core.Bool.{Bool, true, false, cond, not, ◌&&◌, ◌||◌}
 use mathlib.Core.List.Memᴰ.{head as here}
 use mathlib.Core.List.Memᴰ.{tail as there}
 use mathlib.Core.List.{List, [], ◌∷◌, Memᴰ as Mem}
 use mathlib.Core.Option.{Option, none, some}
-use Prim.Native.Nat.{ℕ, ◌≤◌, ◌<◌}
+use Prim.Native.Nat.{ℕ, ◌<◌}
 use native.Mathlib.Omega.{arith}
-use borrow.Author.Tests.{le-leb, lt-leb, le-ltb, eq-eqb, ne_eqb, not-true, not-false}
+use borrow.Author.Tests.{eq-eqb, ne_eqb, not-true, not-false}
 use lib.Dec.{T, eqb, leb, ltb, leb→le, le→leb, T_not, not_T}
 use Rattle.model.specs.Searches.{all, up_to, same}
 use Rattle.model.specs.Plan.{threads, valid_plan}
@@ -27,17 +27,14 @@ use Rattle.clock.specs.View as timing
 use Rattle.clock.specs.View.{number_at}
 use Rattle.due.specs.Lists.{numbered, thread_of}
 use Rattle.machine.specs.View.{condition_of, conditions_of, plan_of, viewed, idle}
-use Rattle.formed.specs.Clauses.{Counted, names_by, names_those, standing}
+use Rattle.formed.specs.Clauses.{Counted, Stood, names_by, names_those, standing}
 use Rattle.formed.proofs.Ranges.{queued_by, waits_by, delayed_by}
 use Rattle.machine.proofs.Laws.{condition_at, counts_within, delays_within}
 
--- what the code joins: the second test where the first is true, and the first where it is false
+-- what the code joins: the second test where the first is true
 
 pub second_asked : (a b : Bool) {r : Bool} → a ≡ true → r ≡ b → r ≡ a && b
 second_asked a b e q = rw e q
-
-pub first_fails : (a b : Bool) {r : Bool} → a ≡ false → r ≡ a → r ≡ a && b
-first_fails a b e q = rw e (q ∙ e)
 
 -- what a question that the code asks says of its test, where the answer was No, and where it was Yes
 
@@ -47,25 +44,14 @@ was_no {r} e n = sym (not-true r n) ∙ e
 pub was_yes : {r a : Bool} → r ≡ a → not r ≡ false → a ≡ true
 was_yes {r} e n = sym e ∙ not-false r n
 
--- a chain of tests of which one fails, or all pass
-
-no_left : {a : Bool} (b : Bool) → false ≡ a → false ≡ a && b
-no_left b e = ap (λ x. x && b) e
-
-pub no_right : (a : Bool) {b : Bool} → false ≡ b → false ≡ a && b
-no_right true e = e
-no_right false e = refl
-
-both_yes : {a b : Bool} → a ≡ true → b ≡ true → a && b ≡ true
-both_yes {a} {b} e q = rw (e, q)
-
 -- a number names nobody, or a thread of the plan
 
-pub names_nobody : (p : Plan) (who : ℕ) → who ≡ 255 → is_thread (view p) (thread_of who) ≡ true
-names_nobody p who e = rw e
-
-pub names_thread : (p : Plan) (who : ℕ) → who ≢ 255 → is_thread (view p) (thread_of who) ≡ ltb who p.threads
-names_thread p who d = rw (ne_eqb who 255 d, threads_view p)
+names_one : (p : Plan) (who : ℕ) → eqb who 255 || ltb who p.threads ≡ is_thread (view p) (thread_of who)
+names_one p who = go (equal? who 255)
+  where
+    go : (who ≡ 255) ⊎ (who ≢ 255) → eqb who 255 || ltb who p.threads ≡ is_thread (view p) (thread_of who)
+    go (inl e) = rw e
+    go (inr d) = rw (ne_eqb who 255 d, threads_view p)
 
 -- the numbers in the order in which they are asked: the tick number, the thread reported, the conditions, the queue, the waits, the holds
 module _ (m : Machine) where
@@ -87,37 +73,15 @@ module _ (m : Machine) where
   abbrev holds' : Bool
   holds' = all (hold_in_range m.plan.threads m.plan.sections) (held m.holds)
 
-  -- the answer that the code gives
-  abbrev pub InRange : Bool → Type 0
-  InRange r = r ≡ numbers_in_range (plan_of m) (idle m)
+  -- as the code asks them
+  abbrev pub numbers_in_turn : Bool
+  numbers_in_turn = tick' && (eqb m.reported 255 || ltb m.reported m.plan.threads) && conditions' && queue' && waits' && holds'
 
-  asked : tick' && reported' && conditions' && queue' && waits' && holds' ≡ numbers_in_range (plan_of m) (idle m)
-  asked =
-      ap (λ n. tick' && reported' && conditions' && are_threads n (queued m.queue) && are_threads n (queued m.waits) && all (hold_in_range n m.plan.sections) (held m.holds))
+  pub numbers_asked : numbers_in_turn ≡ numbers_in_range (plan_of m) (idle m)
+  numbers_asked =
+      ap (λ r. tick' && r && conditions' && queue' && waits' && holds') (names_one m.plan m.reported)
+      ∙ ap (λ n. tick' && reported' && conditions' && are_threads n (queued m.queue) && are_threads n (queued m.waits) && all (hold_in_range n m.plan.sections) (held m.holds))
       (sym (threads_view m.plan))
-
-  pub refused_tick : last_tick < m.tick.0 → InRange false
-  refused_tick h = no_left holds' (no_left waits' (no_left queue' (no_left conditions' (no_left reported' (sym (lt-leb m.tick.0 last_tick h)))))) ∙ asked
-
-  pub refused_reported : m.reported ≢ 255 → m.plan.threads ≤ m.reported → InRange false
-  refused_reported d h =
-      let e : reported' ≡ false = names_thread m.plan m.reported d ∙ le-ltb m.reported m.plan.threads h in
-      no_left holds' (no_left waits' (no_left queue' (no_left conditions' (no_right tick' (sym e))))) ∙ asked
-
-  pub refused_condition : false ≡ conditions' → InRange false
-  refused_condition e = no_left holds' (no_left waits' (no_left queue' (no_right (tick' && reported') e))) ∙ asked
-
-  pub refused_queue : false ≡ queue' → InRange false
-  refused_queue e = no_left holds' (no_left waits' (no_right (tick' && reported' && conditions') e)) ∙ asked
-
-  pub refused_waits : false ≡ waits' → InRange false
-  refused_waits e = no_left holds' (no_right (tick' && reported' && conditions' && queue') e) ∙ asked
-
-  -- where all before them pass, the holds decide
-  pub holds_decide : {r : Bool} → m.tick.0 ≤ last_tick → reported' ≡ true → conditions' ≡ true → queue' ≡ true → waits' ≡ true → r ≡ holds' → InRange r
-  holds_decide t u c q w e =
-      let yes = both_yes (both_yes (both_yes (both_yes (le-leb m.tick.0 last_tick t) u) c) q) w in
-      second_asked (tick' && reported' && conditions' && queue' && waits') holds' yes e ∙ asked
 
 -- two tests that agree on a list, and two that are asked of it at once
 
@@ -148,7 +112,7 @@ decided {x} {f} there' back e = e ∙ go (split x)
     go (inr t) = is_false x t ∙ refused back (sym (is_false x t))
 
 module _ (m : Machine) where
-  abbrev plan' : Bool
+  abbrev pub plan' : Bool
   plan' = valid_plan (plan_of m)
 
   abbrev queue_fits : Bool
@@ -163,17 +127,18 @@ module _ (m : Machine) where
   abbrev holds_fit : Bool
   holds_fit = leb m.holds.count 16
 
-  abbrev counts' : Bool
+  abbrev pub counts' : Bool
   counts' = queue_fits && waits_fit && delays_fit && holds_fit
 
   -- what the questions behind the first two ask for
-  pub counts_fit : plan' ≡ true → counts' ≡ true → Counted m
-  counts_fit v e =
-      let t = from_true counts' e in
+  pub counts_fit : plan' && counts' ≡ true → Counted m
+  counts_fit e =
+      let both = from_true (plan' && counts') e in
+      let t = and_right plan' counts' both in
       let u = and_left (queue_fits && waits_fit && delays_fit) holds_fit t in
       let w = and_left (queue_fits && waits_fit) delays_fit u in
       record {
-        fits = valid_fits m.plan (from_true plan' v);
+        fits = valid_fits m.plan (and_left plan' counts' both);
         counts =
             record {
               queue' = leb→le m.queue.count 16 (and_left queue_fits waits_fit w);
@@ -278,31 +243,38 @@ module _ (m : Machine) where
       (and_both (plan' && numbers' && timers' && once') all_stand (and_both (plan' && numbers' && timers') once' (and_both (plan' && numbers') timers' (and_both plan' numbers' v n) t) h) (and_left all_stand each_delayed both))
       (and_both below each_delayed (subst (λ (b : Bool). T b) (sym same_threads) k) (and_right all_stand each_delayed both)))
 
-  -- the answer that the code gives
-  abbrev pub IsFormed : Bool → Type 0
-  IsFormed r = r ≡ formed_machine (plan_of m) (idle m)
+  -- the first three
+  abbrev pub lists_in_turn : Bool
+  lists_in_turn = plan' && counts' && lists_stand
 
-  pub refused_plan : false ≡ plan' → IsFormed false
-  refused_plan = refused (λ t. (asks t).valid)
+  pub stood : lists_in_turn ≡ true → Counted m × Stood m
+  stood e =
+      let both = from_true lists_in_turn e in
+      (counts_fit (is_true (plan' && counts') (and_left (plan' && counts') lists_stand both)), is_true lists_stand (and_right (plan' && counts') lists_stand both))
 
-  pub refused_counts : false ≡ counts' → IsFormed false
-  refused_counts = refused counts_pass
+  abbrev pub machine_in_turn : Bool
+  machine_in_turn = lists_in_turn && numbers' && delays_known && timers' && once'
 
-  pub refused_lists : false ≡ lists_stand → IsFormed false
-  refused_lists = refused (λ t. (asks t).stands)
+  pub machine_asked : machine_in_turn ≡ formed_machine (plan_of m) (idle m)
+  machine_asked = decided there' back refl
+    where
+      there' : T machine_in_turn → T (formed_machine (plan_of m) (idle m))
+      there' t6 =
+          let t5 = and_left (lists_in_turn && numbers' && delays_known && timers') once' t6 in
+          let t4 = and_left (lists_in_turn && numbers' && delays_known) timers' t5 in
+          let t3 = and_left (lists_in_turn && numbers') delays_known t4 in
+          let t2 = and_left lists_in_turn numbers' t3 in
+          asked_all (and_left plan' counts' (and_left (plan' && counts') lists_stand t2)) (and_right (plan' && counts') lists_stand t2) (and_right lists_in_turn numbers' t3)
+          (and_right (lists_in_turn && numbers') delays_known t4) (and_right (lists_in_turn && numbers' && delays_known) timers' t5)
+          (and_right (lists_in_turn && numbers' && delays_known && timers') once' t6)
 
-  pub refused_numbers : false ≡ numbers' → IsFormed false
-  refused_numbers = refused (λ t. (asks t).numbers)
-
-  pub refused_delays : false ≡ delays_known → IsFormed false
-  refused_delays = refused (λ t. (asks t).known)
-
-  pub refused_timers : false ≡ timers' → IsFormed false
-  refused_timers = refused (λ t. (asks t).timers)
-
-  -- where all before them pass, the holds decide
-  pub once_decides : {r : Bool} → plan' ≡ true → lists_stand ≡ true → numbers' ≡ true → delays_known ≡ true → timers' ≡ true → r ≡ once' → IsFormed r
-  once_decides v s n k t = decided (asked_all (from_true _ v) (from_true _ s) (from_true _ n) (from_true _ k) (from_true _ t)) (λ f. (asks f).held')
+      back : T (formed_machine (plan_of m) (idle m)) → T machine_in_turn
+      back f =
+          let a = asks f in
+          and_both (lists_in_turn && numbers' && delays_known && timers') once'
+          (and_both (lists_in_turn && numbers' && delays_known) timers'
+          (and_both (lists_in_turn && numbers') delays_known
+          (and_both lists_in_turn numbers' (and_both (plan' && counts') lists_stand (and_both plan' counts' a.valid (counts_pass f)) a.stands) a.numbers) a.known) a.timers) a.held'
 
   -- whatever is due, the machine is asked the same
   pub whatever_due : (due : List Report) → formed_machine (plan_of m) (viewed m due) ≡ formed_machine (plan_of m) (idle m)

@@ -6,7 +6,7 @@ use mathlib.Core.List.{List, [], ◌∷◌}
 use Prim.Native.Nat.{ℕ, ◌+◌, ◌-◌, ◌≤◌, ◌<◌}
 use native.Mathlib.Omega.{arith}
 use borrow.Author.Tests.{le-leb, lt-leb, le-ltb, ne_eqb}
-use lib.Dec.{T, leb, ltb, leb→le, le→leb, not_T}
+use lib.Dec.{T, leb, ltb, le→leb, not_T}
 use lib.ListN.{length, get_or, drop, length-drop}
 use Rattle.model.specs.Searches.{all, up_to}
 use Rattle.model.specs.Plan.{threads}
@@ -25,7 +25,7 @@ use Rattle.lists.proofs.Laws.{length-queued}
 use Rattle.clock.specs.View as timing
 use Rattle.due.specs.declared.reports.Report.{Report}
 use Rattle.due.specs.declared.reports.Reports.{Reports}
-use Rattle.due.specs.Lists.{report_room, report_of, IsReport, no_report, owed}
+use Rattle.due.specs.Lists.{report_room, report_of, no_report, owed}
 use Rattle.due.proofs.Laws.{by_kind, is_report_lem, length-owed, none_due, in_due, within}
 use Rattle.machine.specs.declared.Machine.{Machine}
 use Rattle.machine.specs.declared.state.State.{State}
@@ -37,41 +37,22 @@ use Rattle.formed.proofs.Outside.{second_asked, refused, decided, whatever_due}
 
 -- an entry is a report of the papers': a Switch to nobody, the Expire of a timer, a Late of two bytes, or of a kind from 16 to 20 that names a thread
 module _ (p : Plan) (r : Report) where
-  abbrev is_kind : Bool
-  is_kind = leb 16 r.kind && leb r.kind 20
-
   -- what the code answers
   abbrev Meets : Bool → Type 0
   Meets b = b ≡ allowed (view p) (report (report_of r))
 
-  pub to_nobody : r.kind ≡ 17 → r.operand ≡ nobody → Meets true
-  to_nobody e w = rw (e, w)
-
-  pub of_timer : r.kind ≡ 21 → Meets (ltb r.operand timer_count)
-  of_timer e = rw e
-
-  pub of_count : r.operand ≤ 65535 → r.kind ≡ 22 → Meets true
-  of_count h e = rw e (sym (le-leb r.operand 65535 h))
-
   -- a number that names no kind stands for the report of a thread that no plan has
-  unknown : Fits p → (IsReport r → ⊥) → report_of r ≡ Yield nobody → Meets (is_kind && ltb r.operand p.threads)
-  unknown fits n e = rw (none, e, threads_view p) (sym (le-ltb nobody p.threads (omega (arith, fits.threads))))
-    where
-      is : T is_kind → IsReport r
-      is t =
-          record {
-            least = leb→le 16 r.kind (and_left (leb 16 r.kind) (leb r.kind 20) t);
-            most = omega (arith, leb→le r.kind 20 (and_right (leb 16 r.kind) (leb r.kind 20) t));
-          }
+  pub unknown : Fits p → (16 ≤ r.kind → 22 < r.kind) → Meets false
+  unknown fits n =
+      by_kind r (Meets false)
+      (λ e. absurd (omega (arith, n))) (λ e. absurd (omega (arith, n))) (λ e. absurd (omega (arith, n))) (λ e. absurd (omega (arith, n))) (λ e. absurd (omega (arith, n))) (λ e. absurd (omega (arith, n))) (λ e. absurd (omega (arith, n)))
+      (λ i e. rw (e, threads_view p) (sym (le-ltb nobody p.threads (omega (arith, fits.threads)))))
 
-      none : is_kind ≡ false
-      none = is_false is_kind (not_T is_kind (λ t. n (is t)))
-
-  pub to_thread : Fits p → (r.kind ≡ 17 → r.operand ≢ nobody) → r.kind ≢ 21 → r.kind ≢ 22 → Meets (is_kind && ltb r.operand p.threads)
-  to_thread fits d i l =
-      by_kind r (Meets (is_kind && ltb r.operand p.threads))
+  pub of_thread : (r.kind ≡ 17 → r.operand ≢ nobody) → 16 ≤ r.kind → r.kind ≤ 20 → Meets (ltb r.operand p.threads)
+  of_thread d h k =
+      by_kind r (Meets (ltb r.operand p.threads))
       (λ e. rw (e, threads_view p)) (λ e. rw (e, ne_eqb r.operand nobody (d e), threads_view p)) (λ e. rw (e, threads_view p)) (λ e. rw (e, threads_view p)) (λ e. rw (e, threads_view p))
-      (λ e. absurd (i e)) (λ e. absurd (l e)) (unknown fits)
+      (λ e. absurd (omega arith)) (λ e. absurd (omega arith)) (λ i e. absurd (i (record { least = h; most = omega arith })))
 
 -- those still to be given, where some are
 module _ (m : Machine) (rs : Reports) (given : ℕ) (some-due : given < rs.count) where
@@ -136,9 +117,6 @@ module _ (m : Machine) (rs : Reports) (given : ℕ) (some-due : given < rs.count
   pub one_refused : false ≡ known → Passes false
   one_refused e = refused (λ t. (asks t).known') e
 
-  pub not_last : false ≡ last → Passes false
-  not_last e = refused (λ t. (asks t).last') e
-
   -- an entry past the array's end stands for no report
   pub past_end : Fits m.plan → length rs.items ≡ report_room → report_room < rs.count → Passes false
   past_end fits z b = one_refused (sym (is_false known (not_T known (λ t. omega (arith, is t)))))
@@ -154,14 +132,25 @@ module _ (m : Machine) (rs : Reports) (given : ℕ) (some-due : given < rs.count
           within rs.items end z
           (is_report_lem (entry end) (view m.plan) (omega (arith, threads_view m.plan, fits.threads)) (all_at (λ d. allowed (view m.plan) (report d)) due' t (in_due entry rs.count given end (omega arith) (omega arith))))
 
-  -- where all before it pass, what has a claim on the room decides
-  pub room_decides : {r : Bool} → rs.count - given ≤ m.plan.threads + 9 → known ≡ true → last ≡ true
-      → r ≡ leb (length (without_switch due') + m.delays.count + times (owed_none (timing.view m.timers) due') (up_to timer_count) + 1) (m.plan.threads + 9)
-      → Passes r
-  room_decides {r} a b c e =
-      decided (asked_all (le→leb (length due') (threads (plan_of m) + 9) (omega (arith, a, still_due, threads_view m.plan))) (from_true known b) (from_true last c)) (λ t. (asks t).room')
-      (e
-      ∙ ap₂ (λ d n. leb (length (without_switch due') + d + times (owed_none (timing.view m.timers) due') (up_to timer_count) + 1) (n + 9)) (sym (length-queued m.delays)) (sym (threads_view m.plan)))
+  -- where they are few, in the code's order
+  abbrev pub in_turn : List records.Report → Bool
+  in_turn l =
+      all (λ d. allowed (view m.plan) (report d)) l && switch_last l && leb (length (without_switch l) + m.delays.count + times (owed_none (timing.view m.timers) due') (up_to timer_count) + 1) (m.plan.threads + 9)
+
+  pub asked_in_turn : rs.count - given ≤ m.plan.threads + 9 → in_turn due' ≡ passes
+  asked_in_turn h = same_claims ∙ decided there' back refl
+    where
+      same_claims : in_turn due' ≡ known && last && room
+      same_claims =
+          ap₂ (λ d n. known && last && leb (length (without_switch due') + d + times (owed_none (timing.view m.timers) due') (up_to timer_count) + 1) (n + 9)) (sym (length-queued m.delays)) (sym (threads_view m.plan))
+
+      there' : T (known && last && room) → T passes
+      there' t =
+          let two = and_left (known && last) room t in
+          asked_all (le→leb (length due') (threads (plan_of m) + 9) (omega (arith, h, still_due, threads_view m.plan))) (and_left known last two) (and_right known last two) (and_right (known && last) room t)
+
+      back : T passes → T (known && last && room)
+      back t = let a = asks t in and_both (known && last) room (and_both known last a.known' a.last') a.room'
 
 -- behind the machine and what it keeps, what is due decides
 module _ (s : State) where

@@ -14,36 +14,19 @@ use machine::state::State;
 use plan::questions::passes;
 
 // Whether every number is in range: the tick number, the threads and the sections. Asked where each thread stands where its condition says, so
-// that where the waits are empty no condition is a wait.
+// that where the waits are empty no condition is a wait. Lent numbers stay numbers: 255 is nobody.
 fn numbers_in_range(m: Machine) -> bool
     requires { Counted m × Stood m }
     ensures { result ≡ numbers_in_range (plan_of m) (idle m) }
 {
     let p = m.plan;
-    let now = m.tick;
-    if LAST_TICK.0 < now.0 {
-        return false;
-    }
     let who = m.reported;
-    if who != 255 && p.threads <= who as usize {
-        return false;
-    }
-    let s = m.slots;
-    let wakes = m.wakes;
-    let w = m.waits;
-    let calm = w.count == 0;
-    if !conditions::fit(s, wakes, calm, p.threads, p.sections) {
-        return false;
-    }
-    let q = m.queue;
-    if !q.below(p.threads) {
-        return false;
-    }
-    if !w.below(p.threads) {
-        return false;
-    }
-    let h = m.holds;
-    h.in_range(p.threads, p.sections)
+    m.tick <= LAST_TICK
+        && (who == 255 || (who as usize) < p.threads)
+        && conditions::fit(m)
+        && m.queue.below(p.threads)
+        && m.waits.below(p.threads)
+        && m.holds.in_range(p.threads, p.sections)
 }
 
 // Whether the lists are within their words.
@@ -58,26 +41,13 @@ fn machine_formed(m: Machine) -> bool
     ensures { result ≡ formed_machine (plan_of m) (idle m) }
 {
     let p = m.plan;
-    if !passes(p) {
-        return false;
-    }
-    if !counted(m) {
-        return false;
-    }
-    if !stand_once(p.threads, m.slots.states, m.queue, m.waits, m.delays) {
-        return false;
-    }
-    if !numbers_in_range(m) {
-        return false;
-    }
-    if !m.delays.below(p.threads) {
-        return false;
-    }
-    let t = m.timers;
-    if !timers::in_range(t) {
-        return false;
-    }
-    m.holds.once(p.sections)
+    passes(p)
+        && counted(m)
+        && stand_once(m)
+        && numbers_in_range(m)
+        && m.delays.below(p.threads)
+        && timers::in_range(m.timers)
+        && m.holds.once(p.sections)
 }
 
 // Whether the chosen thread is the one last reported. The owner was asked for before.
@@ -100,10 +70,8 @@ pub fn formed(state: State) -> bool
     if !machine_formed(m) {
         return false;
     }
-    if 0 < m.holds.count {
-        if !keeps(m) {
-            return false;
-        }
+    if 0 < m.holds.count && !keeps(m) {
+        return false;
     }
     if state.due.count <= state.given {
         return shown(m);

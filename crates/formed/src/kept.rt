@@ -8,16 +8,12 @@ use lists::holds::Holds;
 use machine::Machine;
 use plan::ceilings::ceilings;
 
-// Whether, if nothing is held, the owner is 255 and the ceiling 0.
+// Whether, if nothing is held, the owner is 255 and the ceiling 0, as the lent struct says it.
 pub(crate) fn empty_fits(holds: Holds) -> bool
     ensures { result ≡ (not (eqb holds.count 0) || (eqb holds.top.ceiling 0 && eqb holds.top.owner 255)) }
 {
     let top = holds.top;
-    if holds.count == 0 {
-        top.ceiling == 0 && top.owner == 255
-    } else {
-        true
-    }
+    holds.count != 0 || top.ceiling == 0 && top.owner == 255
 }
 
 // Whether the owner and the greatest held ceiling are those that a walk finds.

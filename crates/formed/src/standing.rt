@@ -1,10 +1,11 @@
 // Where the threads of a lent state stand: a ready one in the queue, one that waits in the waits, a sleeper in the order of Delays, each once.
-ghost use Rattle.std.specs.Prelude.{◌≡◌, cond, ◌&&◌, ◌+◌, ◌≤◌, ◌<◌, leb};
+ghost use Rattle.std.specs.Prelude.{◌≡◌, ◌&&◌, ◌+◌, ◌≤◌, ◌<◌, leb};
 ghost use Rattle.lists.specs.Lists.{queued};
-ghost use Rattle.formed.specs.Clauses.{all_stand, names_those, standing};
+ghost use Rattle.formed.specs.Clauses.{all_stand, Counted, names_those, standing};
 
 use lists::nibbles::{marks, nibble_at, tally};
 use lists::queue::Queue;
+use machine::Machine;
 
 // Whether all sixteen threads stand where their conditions say, those past the last thread too: asked of whole words. The lowest bit of a
 // condition says that the thread is ready or waits, the next one that it waits or sleeps.
@@ -27,15 +28,11 @@ fn all_stand(states: u64, queue: Queue, waits: Queue, delays: Queue) -> bool
     lowest & next == waiting
 }
 
-// How often a list of the conditions from `least` to `most` names a thread in this one.
-fn named(state: u8, least: u8, most: u8) -> u8
-    ensures { result ≡ cond (leb least state && leb state most) 1 0 }
+// Whether a list of the conditions from `least` to `most` is to name a thread in this one: four bits of a lent word, any number below sixteen.
+fn named(state: u8, least: u8, most: u8) -> bool
+    ensures { result ≡ (leb least state && leb state most) }
 {
-    if least <= state && state <= most {
-        1
-    } else {
-        0
-    }
+    least <= state && state <= most
 }
 
 // Whether a list names each thread once whose condition has a number from `least` to `most`, and no other.
@@ -45,28 +42,25 @@ fn names(threads: usize, states: u64, list: Queue, least: u8, most: u8) -> bool
 {
     let mut found = [0u8; 16];
     tally(list.items, list.count, &mut found);
-    let mut t: usize = 0;
-    while t < threads {
+    for t in 0..threads {
         let state = nibble_at(states, t as u8);
-        if found[t] != named(state, least, most) {
+        if found[t] != u8::from(named(state, least, most)) {
             return false;
         }
-        t += 1;
     }
     true
 }
 
 // Whether each thread of the plan stands once where its condition says, and nowhere else. Where not all sixteen do so at once, each list is asked.
-pub(crate) fn stand_once(
-    threads: usize,
-    states: u64,
-    queue: Queue,
-    waits: Queue,
-    delays: Queue,
-) -> bool
-    requires { (threads ≤ 16) × (queue.count ≤ 16) × (waits.count ≤ 16) × (delays.count ≤ 16) }
-    ensures { result ≡ standing threads states (queued queue) (queued waits) (queued delays) }
+pub(crate) fn stand_once(m: Machine) -> bool
+    requires { Counted m }
+    ensures { result ≡ standing m.plan.threads m.slots.states (queued m.queue) (queued m.waits) (queued m.delays) }
 {
+    let threads = m.plan.threads;
+    let states = m.slots.states;
+    let queue = m.queue;
+    let waits = m.waits;
+    let delays = m.delays;
     if queue.count + waits.count < 16 && delays.count + waits.count < 16 {
         if all_stand(states, queue, waits, delays) {
             return true;

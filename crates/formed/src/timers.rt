@@ -4,30 +4,27 @@ ghost use Rattle.model.specs.Searches.{all, up_to};
 ghost use Rattle.model.specs.Formed.{last_expiry, arming_in_range, timers_in_range};
 ghost use Rattle.clock.specs.View.{number_at, arming_of, view};
 
+use crate::ticks::none_later;
 use clock::time::{LAST_EXPIRY, Tick};
 use clock::timers::{Arming, TIMERS, Timers};
 
-// Whether an arming that is in progress has come to a stage that there is, and is of one of the eight timers.
+// Whether an arming that is in progress has come to a stage that there is, and is of one of the eight timers. The stage
+// stays a number: a lent byte, which may be any.
 fn arming_in_range(arming: Arming) -> bool
     ensures { result ≡ arming_in_range (arming_of arming) }
 {
-    arming.stage == 0 || arming.stage <= 2 && (arming.timer as usize) < TIMERS
+    match arming.stage {
+        0 => true,
+        1 | 2 => (arming.timer as usize) < TIMERS,
+        _ => false,
+    }
 }
 
-// Whether none of the eight expiries is above the greatest: asked at once, without an early end. A timer that is not armed has 0 there.
-fn in_time(expiries: [Tick; TIMERS]) -> bool
+// Whether no expiry is above the greatest. A timer that is not armed has 0 there.
+fn expiries_in_range(expiries: [Tick; TIMERS]) -> bool
     ensures { result ≡ all (λ n. leb n last_expiry) (map (number_at expiries) (up_to 8)) }
 {
-    let mut pass = true;
-    let mut i: usize = 0;
-    while i < TIMERS {
-        let expiry = expiries[i];
-        if LAST_EXPIRY.0 < expiry.0 {
-            pass = false;
-        }
-        i += 1;
-    }
-    pass
+    none_later(expiries, LAST_EXPIRY)
 }
 
 // Whether the arming and every expiry is in range.
@@ -36,5 +33,5 @@ pub(crate) fn in_range(timers: Timers) -> bool
 {
     let arming = timers.arming;
     let expiries = timers.expiries;
-    arming_in_range(arming) && in_time(expiries)
+    arming_in_range(arming) && expiries_in_range(expiries)
 }

@@ -1,27 +1,28 @@
 -- The bench kernel's answer by the question that refuses, and what it writes where none does.
-use mathlib.Core.Path.{◌≡◌, refl, ap, sym, subst, ◌∙◌}
-use mathlib.Core.Bool.{Bool, true, false, cond, not}
+use mathlib.Core.Path.{◌≡◌, refl, ap, sym, ◌∙◌}
+use mathlib.Core.Bool.{Bool, true, false, cond}
 use mathlib.Core.List.{List}
 use mathlib.Core.Option.{Option, none, some}
 use Prim.Native.Nat.{ℕ, ◌≤◌, ◌<◌}
 use native.Mathlib.Omega.{arith}
-use borrow.Author.Tests.{le-leb, lt-leb, not-true, not-false}
+use borrow.Author.Tests.{le-leb, lt-leb}
 use lib.Dec.{leb}
 use lib.ListN.{length}
+use Rattle.std.specs.Prelude.{Some, None}
+use Rattle.model.proofs.Tests.{from_true}
 use Rattle.model.specs.Plan as model
 use Rattle.model.specs.Records.{Record}
 use Rattle.model.specs.Bench.{bench, calls_of}
 use Rattle.plan.specs.Bytes as plans
-use Rattle.plan.specs.Bytes.{number, thread_count, section_count, plan_of}
+use Rattle.plan.specs.Bytes.{thread_count, section_count, plan_of}
 use Rattle.plan.specs.View.{Made}
 use Rattle.plan.specs.declared.Plan.{Plan}
 use Rattle.dump.specs.Layout.{decode}
 use Rattle.dump.specs.Questions as dumps
 use Rattle.dump.specs.Questions.{most_records}
-use Rattle.dump.proofs.Laws.{Refused, by_plan, by_list, read_refusal, refusal_zero}
-use Rattle.kernel.specs.declared.tally.Counted.{Counted}
+use Rattle.dump.proofs.Laws.{Refused, by_plan, by_list, read_refusal}
 use Rattle.kernel.specs.Answers.{Answer, refused, wrote, made, is_made, records_of, bytes_for, refusal, answer_with, answer, at_front, output_with, output}
-use Rattle.kernel.specs.Clauses.{made_of, Tallies}
+use Rattle.kernel.specs.Clauses.{made_of, tally_of, AllFit}
 
 -- questions 5 to 8 of a call list, with the counts of a plan's bytes
 abbrev list_refusal : (plan list : List ℕ) → Option ℕ
@@ -77,43 +78,50 @@ module _ (plan list out : List ℕ) where
         pub all_pass : bytes_for (length records) ≤ length out → Answers (wrote (length records)) (at_front records out)
         all_pass g = with_refusal none (asked true true true e (le-leb (length records) most_records h) (le-leb (bytes_for (length records)) (length out) g))
 
--- the same of the code's plan, read from the bytes, and of what the first run has counted for it
+-- the same of the code's plan, read from the bytes
 
 -- the calls make the same records
 made_read : (plan list : List ℕ) (p : Plan) → Made p (plan_of plan) → made_of p list ≡ made plan list
 unfolding made
 made_read plan list p m = ap (λ (q : model.Plan). bench q (calls_of (decode list))) m.seen
 
--- nothing refuses plan and list, and the calls are counted
-pub record Tallied (plan list : List ℕ) (t : Counted) : Type 0 where
-  pub plan_yes : plans.refusal plan ≡ none
-  pub list_yes : dumps.refusal (thread_count plan) (section_count plan) true list ≡ none
-  pub counts : Tallies t (made plan list)
+-- what the first run has counted says whether all calls are admitted, and of how many records
 
--- the number 0 says that nothing refuses the list
-pub list_passes : (threads sections : ℕ) (list : List ℕ) (q : ℕ) → q ≡ number (dumps.refusal threads sections true list) → q ≡ 0 → dumps.refusal threads sections true list ≡ none
-list_passes threads sections list q e z = refusal_zero threads sections true list (sym e ∙ z)
+none_made : (o : Option (List Record)) → None ≡ tally_of o → is_made o ≡ false
+none_made none e = refl
+none_made (some rs) e = absurd (let z : ◌≡◌ {A = ℕ} 0 1 = cc in omega arith)
 
-pub tallied : (plan list : List ℕ) (p : Plan) → Made p (plan_of plan) → plans.refusal plan ≡ none → (t : Counted) → dumps.refusal p.threads p.sections true list ≡ none → Tallies t (made_of p list) → Tallied plan list t
-tallied plan list p m a t b c = record { plan_yes = a; list_yes = sym (read_refusal plan m true list) ∙ b; counts = subst (Tallies t) (made_read plan list p m) c }
+all_made : (o : Option (List Record)) (n : ℕ) → Some n ≡ tally_of o → (is_made o ≡ true) × (n ≡ length (records_of o))
+all_made none n e = absurd (let z : ◌≡◌ {A = ℕ} 0 1 = cc in omega arith)
+all_made (some rs) n e = (refl, cc)
 
-module _ (plan list out : List ℕ) {t : Counted} (k : Tallied plan list t) where
-  pub not_admitted : not t.admitted ≡ true → Answers plan list out (refused 9) out
-  not_admitted e = call_refuses plan list out k.plan_yes k.list_yes (sym k.counts.admitted' ∙ not-true t.admitted e)
+-- nothing refuses the plan that is read and the list
+module _ (plan list out : List ℕ) {p : Plan} (m : Made p (plan_of plan)) (a : plans.refusal plan ≡ none) (b : dumps.refusal p.threads p.sections true list ≡ none) where
+  list_yes : list_refusal plan list ≡ none
+  list_yes = sym (read_refusal plan m true list) ∙ b
 
-  module _ (e : not t.admitted ≡ false) where
-    yes : is_made (made plan list) ≡ true
-    yes = sym k.counts.admitted' ∙ not-false t.admitted e
+  pub not_admitted : None ≡ tally_of (made_of p list) → Answers plan list out (refused 9) out
+  not_admitted e = call_refuses plan list out a list_yes (none_made _ (e ∙ ap tally_of (made_read plan list p m)))
 
-    pub too_many : most_records < t.records → Answers plan list out (refused 10) out
-    too_many h = count_refuses plan list out k.plan_yes k.list_yes yes (omega (arith, k.counts.records'))
+  module _ {n : ℕ} (e : Some n ≡ tally_of (made_of p list)) where
+    counted : (is_made (made plan list) ≡ true) × (n ≡ length (records_of (made plan list)))
+    counted = all_made _ n (e ∙ ap tally_of (made_read plan list p m))
 
-    module _ (h : t.records ≤ most_records) where
-      pub no_space : length out < bytes_for t.records → Answers plan list out (refused 11) out
-      no_space g = space_refuses plan list out k.plan_yes k.list_yes yes (omega (arith, k.counts.records')) (omega (arith, k.counts.records'))
+    pub too_many : most_records < n → Answers plan list out (refused 10) out
+    too_many h = count_refuses plan list out a list_yes counted.0 (omega (arith, counted.1))
 
-      -- what is written for the code's plan is the output
-      pub written : (p : Plan) → Made p (plan_of plan) → (after : List ℕ) → after ≡ at_front (records_of (made_of p list)) out → bytes_for t.records ≤ length out → Answers plan list out (wrote t.records) after
-      written p m after w g =
-          let b = all_pass plan list out k.plan_yes k.list_yes yes (omega (arith, k.counts.records')) (omega (arith, k.counts.records')) in
-          (ap wrote k.counts.records' ∙ b.0, w ∙ ap (λ o. at_front (records_of o) out) (made_read plan list p m) ∙ b.1)
+    module _ (h : n ≤ most_records) where
+      pub no_space : length out < bytes_for n → Answers plan list out (refused 11) out
+      no_space g = space_refuses plan list out a list_yes counted.0 (omega (arith, counted.1)) (omega (arith, counted.1))
+
+      -- there is room for all that is written,
+      pub fits : bytes_for n ≤ length out → AllFit (made_of p list) n out
+      fits g =
+          let c = all_made (made_of p list) n e in
+          record { admitted = from_true _ c.0; count = c.1; few = h; room = g }
+
+      -- and what is written for the code's plan is the output
+      pub written : (after : List ℕ) → after ≡ at_front (records_of (made_of p list)) out → bytes_for n ≤ length out → Answers plan list out (wrote n) after
+      written after w g =
+          let r = all_pass plan list out a list_yes counted.0 (omega (arith, counted.1)) (omega (arith, counted.1)) in
+          (ap wrote counted.1 ∙ r.0, w ∙ ap (λ o. at_front (records_of o) out) (made_read plan list p m) ∙ r.1)

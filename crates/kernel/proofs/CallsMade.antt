@@ -1,14 +1,13 @@
 -- A run over the calls of a list: what is known after k calls, each made with the reports of earlier ones given.
 use mathlib.Core.Path.{◌≡◌, refl, ap, sym, subst, ◌∙◌}
-use mathlib.Core.Logic.{◌⊎◌, inl, inr, ◌≢◌}
 use mathlib.Core.Bool.{Bool, true, false, cond}
 use mathlib.Core.List.{List, [], ◌∷◌, ◌++◌, map, append_assoc, append-nil}
 use mathlib.Core.Option.{Option, none, some}
 use Prim.Native.Nat.{ℕ, ◌+◌, ◌*◌, ◌≤◌, ◌<◌}
 use native.Mathlib.Omega.{arith}
-use borrow.Author.Tests.{eq-eqb, ne_eqb}
-use lib.Dec.{T, eqb}
+use lib.Dec.{T}
 use lib.ListN.{length, drop, length-append, length-map}
+use Rattle.std.specs.Prelude.{is_ok}
 use Rattle.model.specs.Plan as model
 use Rattle.model.specs.Records as records
 use Rattle.model.specs.Records.{Call, call, report, allowed}
@@ -16,13 +15,13 @@ use Rattle.model.specs.Timers.{is_complete}
 use Rattle.model.specs.State as state
 use Rattle.model.specs.Runs.{moved, broke, step}
 use Rattle.model.specs.Bench.{deliver_all, behind, bench_from}
-use Rattle.model.proofs.Tests.{equal?}
 use Rattle.model.proofs.Laws.{Reached, begin, next, due_fits, tick_at_most, bench_begins, bench_ended, bench_moved, bench_broke, settled_reached}
 use Rattle.plan.specs.View as plans
 use Rattle.plan.specs.declared.Plan.{Plan}
 use Rattle.plan.proofs.Laws.{threads_view}
 use Rattle.machine.specs.declared.state.State.{State}
 use Rattle.machine.specs.View.{plan_of, view}
+use Rattle.machine.specs.Rules.{answer_number}
 use Rattle.machine.specs.Kept.{kept}
 use Rattle.machine.specs.Clauses.{Fresh}
 use Rattle.machine.proofs.Laws.{stands_formed, keeps_on, ceilings_of}
@@ -127,28 +126,28 @@ module _ {p : Plan} {ceilings list : List ℕ} {n : ℕ} (passed : Passed p ceil
       onwards : bench_from (plans.view p) (view s) (drop k (calls list)) ≡ bench_from (plans.view p) (view s) (call_at list k ∷ drop (k + 1) (calls list))
       onwards = ap (bench_from (plans.view p) (view s)) (call_next passed k h)
 
-      outcome : {b : Bool} → eqb o.rule 0 ≡ b → step (plans.view p) (view s) (call (call_at list k)) ≡ cond b (moved (view o.state)) (broke o.rule)
+      outcome : {b : Bool} → is_ok o.rule ≡ b → step (plans.view p) (view s) (call (call_at list k)) ≡ cond b (moved (view o.state)) (broke (answer_number o.rule))
       outcome {b} e =
-          as_call (λ q r. step q (view s) r ≡ cond b (moved (view o.state)) (broke o.rule))
-          (sym a.outcome ∙ ap (λ c. cond c (moved (view o.state)) (broke o.rule)) e)
+          as_call (λ q r. step q (view s) r ≡ cond b (moved (view o.state)) (broke (answer_number o.rule)))
+          (sym a.outcome ∙ ap (λ c. cond c (moved (view o.state)) (broke (answer_number o.rule))) e)
 
       -- a call that is not admitted: nothing is written
-      pub made_broke : (o.rule ≡ 0 → ⊥) → made_of p list ≡ none
+      pub made_broke : is_ok o.rule ≡ false → made_of p list ≡ none
       made_broke d =
           m.so_far
-          ∙ ap (behind done) (onwards ∙ bench_broke (plans.view p) (view s) (call_at list k) (drop (k + 1) (calls list)) o.rule (outcome (ne_eqb o.rule 0 d)))
+          ∙ ap (behind done) (onwards ∙ bench_broke (plans.view p) (view s) (call_at list k) (drop (k + 1) (calls list)) (answer_number o.rule) (outcome d))
 
       -- where something is written, every call is admitted
-      pub made_admitted : T (is_made (made_of p list)) → o.rule ≡ 0
-      made_admitted t = go (equal? o.rule 0)
+      pub made_admitted : T (is_made (made_of p list)) → is_ok o.rule ≡ true
+      made_admitted t = go (is_ok o.rule) refl
         where
-          go : (o.rule ≡ 0) ⊎ (o.rule ≢ 0) → o.rule ≡ 0
-          go (inl e) = e
-          go (inr d) = absurd (subst (λ (l : Option (List records.Record)). T (is_made l)) (made_broke d) t)
+          go : (b : Bool) → is_ok o.rule ≡ b → is_ok o.rule ≡ true
+          go true e = e
+          go false d = absurd (subst (λ (l : Option (List records.Record)). T (is_made l)) (made_broke d) t)
 
-      module _ (z : o.rule ≡ 0) where
+      module _ (z : is_ok o.rule ≡ true) where
         moves_call : step (plans.view p) (view s) (call (call_at list k)) ≡ moved (view o.state)
-        moves_call = outcome (eq-eqb o.rule 0 z)
+        moves_call = outcome z
 
         reached_call : Reached (plans.view p) (view o.state)
         reached_call =

@@ -1,5 +1,5 @@
 -- What the bench kernel answers of a plan, a call list and a lent output, and what it writes there.
-use Rattle.std.specs.Prelude.{Bool, true, false, List, [], ◌∷◌, ◌++◌, ℕ, ◌+◌, ◌*◌, leb, length, drop}
+use Rattle.std.specs.Prelude.{Bool, true, false, List, [], ◌∷◌, ◌++◌, ℕ, ◌+◌, ◌*◌, leb, length, drop, Result, Ok, Err}
 use Rattle.std.proofs.Math.Option.{Option, none, some}
 use Rattle.model.specs.Records.{Record}
 use Rattle.model.specs.Rules.{Question, ◌asks◌, first_no}
@@ -8,8 +8,8 @@ use Rattle.plan.specs.Bytes as plans
 use Rattle.dump.specs.Layout.{decode, encode}
 use Rattle.dump.specs.Questions as dumps
 use Rattle.dump.specs.Questions.{most_records}
-use Rattle.kernel.specs.declared.bench.Written as declared
-use Rattle.kernel.specs.declared.bench.Written.TheVariants.{Refused, Wrote}
+use Rattle.kernel.specs.declared.bench.Refusal.{Refusal}
+use Rattle.kernel.specs.declared.bench.Refusal.TheVariants.{Plan, List as CallList, Calls, Records, Output}
 
 -- refused with a number, or the number of records written
 pub data Answer : Type 0 where
@@ -66,7 +66,15 @@ output_with (some q) rs out = out
 unfoldable pub output : (plan list out : List ℕ) → List ℕ
 output plan list out = output_with (refusal plan list (length out)) (records_of (made plan list)) out
 
--- the answer that a case of the code's enum stands for
-abbrev pub answer_of : declared.Written → Answer
-answer_of (Refused n) = refused n
-answer_of (Wrote n) = wrote n
+-- the number of the question that a refusal names
+abbrev pub question : Refusal → ℕ
+question (Plan r) = plans.question r
+question (CallList r) = dumps.question r
+question Calls = 9
+question Records = 10
+question Output = 11
+
+-- the answer that the code's result stands for
+abbrev pub answer_of : Result ℕ Refusal → Answer
+answer_of (Ok n) = wrote n
+answer_of (Err r) = refused (question r)

@@ -1,6 +1,7 @@
 -- What the bench kernel's parts ask and answer.
-use Rattle.std.specs.Prelude.{◌≡◌, true, List, [], ◌∷◌, map, ℕ, ◌+◌, ◌*◌, ◌/◌, ◌%◌, ◌≤◌, T, length, set}
-use Rattle.std.proofs.Math.Option.{Option, none}
+use Rattle.std.specs.Prelude.{◌≡◌, true, List, [], ◌∷◌, map, ℕ, ◌+◌, ◌*◌, ◌/◌, ◌%◌, ◌≤◌, T, length, set, Some, None}
+use Rattle.std.specs.Prelude as code
+use Rattle.std.proofs.Math.Option.{Option, none, some}
 use Rattle.model.specs.Searches.{up_to}
 use Rattle.model.specs.Plan.{valid_plan, ceiling}
 use Rattle.model.specs.Records.{Record, report}
@@ -13,7 +14,6 @@ use Rattle.machine.specs.declared.state.State.{State}
 use Rattle.dump.specs.Layout.{record_count, decode, kind_of, operand_of}
 use Rattle.dump.specs.Questions as dumps
 use Rattle.dump.specs.Questions.{most_records}
-use Rattle.kernel.specs.declared.tally.Counted.{Counted}
 use Rattle.kernel.specs.declared.write.Placed.{Placed}
 use Rattle.kernel.specs.Answers.{is_made, records_of, bytes_for}
 
@@ -34,10 +34,10 @@ pub record Settles (r s : State) : Type 0 where
   pub holds' : r.machine.holds ≡ s.machine.holds
   pub seen : view r ≡ deliver_all (view s)
 
--- whether every call is admitted, and how many records there are; 0 where one is not admitted
-pub record Tallies (r : Counted) (rs : Option (List Record)) : Type 0 where
-  pub admitted' : r.admitted ≡ is_made rs
-  pub records' : r.records ≡ length (records_of rs)
+-- how many records there are; none where a call is not admitted
+abbrev pub tally_of : Option (List Record) → code.Option ℕ
+tally_of none = None
+tally_of (some rs) = Some (length rs)
 
 -- record i, of this kind and operand: its kind behind N, its operand at the running place
 abbrev pub record_put : (i running kind operand : ℕ) → List ℕ → List ℕ

@@ -22,12 +22,13 @@ fn put(out: &mut [u8], i: usize, running: usize, kind: u8, operand: u16)
     requires { (2 + i < length out.old) × (running + 1 < length out.old) }
     ensures { out.new ≡ record_put i running kind operand out.old }
 {
+    let [low, high] = operand.to_le_bytes();
     out[2 + i] = kind;
-    out[running] = (operand % 256) as u8;
-    out[running + 1] = (operand / 256) as u8;
+    out[running] = low;
+    out[running + 1] = high;
 }
 
-// The reports due, each given as it is written.
+// The reports due, each given as it is written, so that there is no list of them to go over.
 fn put_reports(state: State, out: &mut [u8], i: usize, running: usize) -> Placed
     requires { ReportsFit state i running out.old }
     ensures { Places result state i running out.old out.new }
@@ -61,21 +62,20 @@ pub(crate) fn write(
     requires { Passed plan ceilings.now list.now calls × AllFit (made_of plan list.now) n out.old }
     ensures { out.new ≡ at_front (records_of (made_of plan list.now)) out.old }
 {
-    out[0] = (n % 256) as u8;
-    out[1] = (n / 256) as u8;
+    let [low, high] = (n as u16).to_le_bytes();
+    out[0] = low;
+    out[1] = high;
     let mut s = State::fresh(plan);
-    let mut k: usize = 0;
     let mut from: usize = first_operand(calls);
     let mut i: usize = 0;
     let mut to: usize = first_operand(n);
-    while k < calls {
+    for k in 0..calls {
         let e = entry_at(list, k, from);
         let o = step(s, ceilings, list, k, from);
         put(out, i, to, e.kind, e.operand);
         let moved = o.state;
         let w = put_reports(moved, out, i + 1, to + 2);
         s = w.state;
-        k += 1;
         from += 2;
         i = w.records;
         to = w.running;

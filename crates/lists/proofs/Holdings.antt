@@ -2,14 +2,14 @@
 use mathlib.Core.Path.{◌≡◌, refl, ap, sym, ◌∙◌}
 use mathlib.Core.Logic.{◌⊎◌, inl, inr, ◌≢◌}
 use mathlib.Core.Bool.{Bool, true, false, cond, not, ◌&&◌, ◌||◌}
-use mathlib.Core.List.{List, [], ◌∷◌, ◌++◌, append_assoc, append-nil}
+use mathlib.Core.List.{List, [], ◌∷◌, ◌++◌}
 use mathlib.Core.Option.{Option, none, some, map}
 use Prim.Native.Nat.{ℕ, zero, suc, ◌+◌, ◌-◌, ◌/◌, ◌%◌, ◌≤◌, ◌<◌}
 use native.Mathlib.Omega.{arith}
 use borrow.Author.Tests.{ne_eqb, lt-ltb, le-ltb}
 use lib.Dec.{T, eqb, ltb, ltb→lt, nltb→le}
 use lib.ListN.{length}
-use Rattle.model.specs.Searches.{all, any, filter, better, first_greatest}
+use Rattle.model.specs.Searches.{all, filter, better, first_greatest}
 use Rattle.model.specs.State as state
 use Rattle.model.specs.State.{hold}
 use Rattle.model.specs.Formed.{times}
@@ -20,26 +20,14 @@ use Rattle.lists.specs.Lists.{held_in, top_of}
 use Rattle.lists.proofs.Words.{set-behind, front_kept}
 
 module _ {A : Type 0} where
-  -- all pass where none fails, of a list and of those of it that another test lets through
-  pub all_none : (f : A → Bool) (l : List A) → all f l ≡ not (any (λ a. not (f a)) l)
-  all_none f [] = refl
-  all_none f (a ∷ l) = go (f a) (all_none f l)
+  -- each passes one of two tests where those that fail the one pass the other
+  pub all_others : (q f : A → Bool) (l : List A) → all (λ a. q a || f a) l ≡ all f (filter (λ a. not (q a)) l)
+  all_others q f [] = refl
+  all_others q f (a ∷ l) = go (q a) (all_others q f l)
     where
-      go : (x : Bool) → all f l ≡ not (any (λ a. not (f a)) l) → x && all f l ≡ not (not x || any (λ a. not (f a)) l)
+      go : (x : Bool) → all (λ a. q a || f a) l ≡ all f (filter (λ a. not (q a)) l) → (x || f a) && all (λ a. q a || f a) l ≡ all f (cond (not x) (a ∷ filter (λ a. not (q a)) l) (filter (λ a. not (q a)) l))
       go true e = e
-      go false e = refl
-
-  pub filter_none : (q f : A → Bool) (l : List A) → all f (filter q l) ≡ not (any (λ a. q a && not (f a)) l)
-  filter_none q f [] = refl
-  filter_none q f (a ∷ l) = go (q a) (f a) refl (filter_none q f l)
-    where
-      rest : Bool
-      rest = any (λ a. q a && not (f a)) l
-
-      go : (x y : Bool) → f a ≡ y → all f (filter q l) ≡ not rest → all f (cond x (a ∷ filter q l) (filter q l)) ≡ not ((x && not y) || rest)
-      go true true e k = rw e k
-      go true false e k = rw e
-      go false y e k = k
+      go false e = ap (λ r. f a && r) e
 
   -- all pass where each does
   pub all_pass : (f : A → Bool) (l : List A) → ((a : A) → f a ≡ true) → all f l ≡ true
@@ -107,42 +95,17 @@ is_of_thread t h = eqb h.thread t
 abbrev pub is_of_section : (section : ℕ) → state.Hold → Bool
 is_of_section s h = eqb h.section s
 
--- whatever h makes of the holds that are left, in a turn and at the end of the loop
+-- whatever h makes of holds of which there is a first
 module _ {ℓ} {R : Type ℓ} (h : List state.Hold → R) (n ss ts : ℕ) where
   pub turn : 0 < n → h (held_in n ss ts) ≡ h (first_hold ss ts ∷ held_in (n - 1) (ss / 16) (ts / 16))
   turn k = let z : n ≡ suc (n - 1) = omega arith in ap (λ m. h (held_in m ss ts)) z
 
-  pub done : n ≤ 0 → h (held_in n ss ts) ≡ h []
-  done k = let z : n ≡ 0 = omega arith in ap (λ m. h (held_in m ss ts)) z
-
--- a loop that asks whether any passes: whether any that is left passes is whether any of the list passes
-module _ (p : state.Hold → Bool) (l : List state.Hold) where
-  abbrev pub AnyLeft : (n ss ts : ℕ) → Type 0
-  AnyLeft n ss ts = any p (held_in n ss ts) ≡ any p l
-
-  module _ (n ss ts : ℕ) (k : 0 < n) (inv : AnyLeft n ss ts) where
-    turned : p (first_hold ss ts) || any p (held_in (n - 1) (ss / 16) (ts / 16)) ≡ any p l
-    turned = sym (turn (any p) n ss ts k) ∙ inv
-
-    pub missed : p (first_hold ss ts) ≡ false → AnyLeft (n - 1) (ss / 16) (ts / 16)
-    missed e = rw e at turned
-
-    pub found : p (first_hold ss ts) ≡ true → false ≡ not (any p l)
-    found e = ap not (rw e at turned)
-
-  pub none_found : (n ss ts : ℕ) → n ≤ 0 → AnyLeft n ss ts → true ≡ not (any p l)
-  none_found n ss ts k inv = ap not (sym (done (any p) n ss ts k) ∙ inv)
-
--- how often a section is held is how often it stands in the sections' word
-pub section_times : (s n ss ts : ℕ) → times (is_of_section s) (held_in n ss ts) ≡ times (λ u. eqb u s) (nibbles n ss)
-section_times s zero ss ts = refl
-section_times s (suc n) ss ts = go (eqb (ss % 16) s) (section_times s n (ss / 16) (ts / 16))
-  where
-    go : (b : Bool) → times (is_of_section s) (held_in n (ss / 16) (ts / 16)) ≡ times (λ u. eqb u s) (nibbles n (ss / 16))
-        → length (cond b (first_hold ss ts ∷ filter (is_of_section s) (held_in n (ss / 16) (ts / 16))) (filter (is_of_section s) (held_in n (ss / 16) (ts / 16))))
-        ≡ length (cond b (ss % 16 ∷ filter (λ u. eqb u s) (nibbles n (ss / 16))) (filter (λ u. eqb u s) (nibbles n (ss / 16))))
-    go true e = ap suc e
-    go false e = e
+-- the section and the thread that are taken in a turn are below sixteen
+pub hold_small : (n ss ts : ℕ) {h : state.Hold} {r : List state.Hold} → held_in n ss ts ≡ h ∷ r → (h.section < 16) × (h.thread < 16)
+hold_small zero ss ts e = cc
+hold_small (suc n) ss ts {h = h} e =
+    let z : hold (ss % 16) (ts % 16) ≡ h = cc in
+    (omega (arith, ap (λ (k : state.Hold). k.section) z), omega (arith, ap (λ (k : state.Hold). k.thread) z))
 
 -- of the first two holds only the one of greater ceiling matters, on a tie the first
 module _ (f : state.Hold → ℕ) (a b : state.Hold) (l : List state.Hold) where
@@ -159,34 +122,26 @@ module _ (f : state.Hold → ℕ) (a b : state.Hold) (l : List state.Hold) where
 
 -- a loop that keeps the owner so far and its ceiling; a thread's number is below 255, which stands for none yet
 module _ (f : state.Hold → ℕ) (l : List state.Hold) where
-  abbrev pub TopLeft : (n ss ts owner top : ℕ) → Type 0
-  TopLeft n ss ts owner top =
-      ((owner ≡ 255) × (top ≡ 0) × (walk_by f (held_in n ss ts) ≡ walk_by f l))
-      ⊎ ((h : state.Hold) × (h.thread ≡ owner) × (owner < 255) × (f h ≡ top) × (walk_by f (h ∷ held_in n ss ts) ≡ walk_by f l))
+  abbrev pub TopLeft : (left : List state.Hold) (owner top : ℕ) → Type 0
+  TopLeft left owner top =
+      ((owner ≡ 255) × (top ≡ 0) × (walk_by f left ≡ walk_by f l))
+      ⊎ ((h : state.Hold) × (h.thread ≡ owner) × (owner < 255) × (f h ≡ top) × (walk_by f (h ∷ left) ≡ walk_by f l))
 
-  module _ (n ss ts owner top : ℕ) (k : 0 < n) where
-    pub top_new : TopLeft n ss ts owner top → (owner ≡ 255) ⊎ (top < f (first_hold ss ts)) → TopLeft (n - 1) (ss / 16) (ts / 16) (ts % 16) (f (first_hold ss ts))
-    top_new (inl (w, z, e)) g = inr (first_hold ss ts, refl, omega arith, refl, sym (turn (walk_by f) n ss ts k) ∙ e)
-    top_new (inr (h, w, b, v, e)) (inl g) = absurd (omega arith)
-    top_new (inr (h, w, b, v, e)) (inr g) =
-        inr (
-          first_hold ss ts,
-          refl,
-          omega arith,
-          refl,
-          sym (turn (λ r. walk_by f (h ∷ r)) n ss ts k ∙ top_later f h (first_hold ss ts) (held_in (n - 1) (ss / 16) (ts / 16)) (omega arith)) ∙ e,
-        )
+  module _ (a : state.Hold) (left : List state.Hold) (owner top : ℕ) where
+    pub top_new : a.thread < 255 → TopLeft (a ∷ left) owner top → (owner ≡ 255) ⊎ (top < f a) → TopLeft left a.thread (f a)
+    top_new k (inl (w, z, e)) g = inr (a, refl, k, refl, e)
+    top_new k (inr (h, w, b, v, e)) (inl g) = absurd (omega arith)
+    top_new k (inr (h, w, b, v, e)) (inr g) = inr (a, refl, k, refl, sym (top_later f h a left (omega arith)) ∙ e)
 
-    pub top_stays : TopLeft n ss ts owner top → owner ≢ 255 → f (first_hold ss ts) ≤ top → TopLeft (n - 1) (ss / 16) (ts / 16) owner top
+    pub top_stays : TopLeft (a ∷ left) owner top → owner ≢ 255 → f a ≤ top → TopLeft left owner top
     top_stays (inl (w, z, e)) d g = absurd (d w)
-    top_stays (inr (h, w, b, v, e)) d g =
-        inr (h, w, b, v, sym (turn (λ r. walk_by f (h ∷ r)) n ss ts k ∙ top_earlier f h (first_hold ss ts) (held_in (n - 1) (ss / 16) (ts / 16)) (omega arith)) ∙ e)
+    top_stays (inr (h, w, b, v, e)) d g = inr (h, w, b, v, sym (top_earlier f h a left (omega arith)) ∙ e)
 
-  pub top_found : (n ss ts owner top : ℕ) → n ≤ 0 → TopLeft n ss ts owner top → top_of (record { owner = owner; ceiling = top }) ≡ walk_by f l
+  pub top_found : (owner top : ℕ) → TopLeft [] owner top → top_of (record { owner = owner; ceiling = top }) ≡ walk_by f l
   unfolding walk_by
-  top_found n ss ts owner top k (inl (w, z, e)) = rw (w, z) (sym (done (walk_by f) n ss ts k) ∙ e)
-  top_found n ss ts owner top k (inr (h, w, b, v, e)) =
-      rw (ne_eqb owner 255 (λ z. omega arith), ← w, ← v) (ap (λ (c : ℕ). record { owner = some h.thread; ceiling = c }) (omega arith) ∙ sym (done (λ r. walk_by f (h ∷ r)) n ss ts k) ∙ e)
+  top_found owner top (inl (w, z, e)) = rw (w, z) e
+  top_found owner top (inr (h, w, b, v, e)) =
+      rw (ne_eqb owner 255 (λ z. omega arith), ← w, ← v) (ap (λ (c : ℕ). record { owner = some h.thread; ceiling = c }) (omega arith) ∙ e)
 
 -- sections and threads, one hold for each two
 abbrev pairs : (sections threads : List ℕ) → List state.Hold
@@ -209,22 +164,3 @@ module _ (n ss ts s t : ℕ) (h : s < 16) (k : t < 16) where
 
   pub hold_behind : held_in (n + 1) (with_nibble ss n s) (with_nibble ts n t) ≡ held_in n ss ts ++ (hold s t ∷ [])
   hold_behind = paired (n + 1) (with_nibble ss n s) (with_nibble ts n t) ∙ (rw (set-behind n ss s h, set-behind n ts t k) (pairs_more n ss ts s t))
-
--- a loop that keeps those that pass: those kept so far, and behind them those left that pass
-module _ (p : state.Hold → Bool) (l : List state.Hold) where
-  abbrev pub KeptLeft : (m sections threads n ss ts : ℕ) → Type 0
-  KeptLeft m sections threads n ss ts = held_in m sections threads ++ filter p (held_in n ss ts) ≡ filter p l
-
-  module _ (m sections threads n ss ts : ℕ) (k : 0 < n) (inv : KeptLeft m sections threads n ss ts) where
-    turned_filter : held_in m sections threads ++ filter p (first_hold ss ts ∷ held_in (n - 1) (ss / 16) (ts / 16)) ≡ filter p l
-    turned_filter = sym (turn (λ r. held_in m sections threads ++ filter p r) n ss ts k) ∙ inv
-
-    pub kept : p (first_hold ss ts) ≡ true → KeptLeft (m + 1) (with_nibble sections m (ss % 16)) (with_nibble threads m (ts % 16)) (n - 1) (ss / 16) (ts / 16)
-    kept e = rw (hold_behind m sections threads (ss % 16) (ts % 16) (omega arith) (omega arith), append_assoc) (rw e at turned_filter)
-
-    pub dropped : p (first_hold ss ts) ≡ false → KeptLeft m sections threads (n - 1) (ss / 16) (ts / 16)
-    dropped e = rw e at turned_filter
-
-  pub all_kept : (m sections threads n ss ts : ℕ) → n ≤ 0 → KeptLeft m sections threads n ss ts → held_in m sections threads ≡ filter p l
-  all_kept m sections threads n ss ts k inv =
-      sym (append-nil (held_in m sections threads)) ∙ sym (done (λ r. held_in m sections threads ++ filter p r) n ss ts k) ∙ inv

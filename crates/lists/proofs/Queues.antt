@@ -9,12 +9,11 @@ use Prim.Native.Nat.{ℕ, zero, suc, ◌+◌, ◌-◌, ◌/◌, ◌%◌, ◌≤�
 use native.Mathlib.Omega.{arith}
 use borrow.Author.Tests.{lt-ltb, le-ltb, eq-eqb, ne_eqb}
 use lib.Dec.{T, eqb, ltb, ltb→lt, nltb→le}
-use lib.ListN.{length, set}
-use lib.Seq.{get_or-set_same, get_or-set_other}
+use lib.ListN.{length}
 use Rattle.model.specs.Searches.{filter, better, first_greatest}
 use Rattle.model.specs.Formed.{times}
 use Rattle.model.proofs.Tests.{split, is_true, is_false, equal?}
-use Rattle.lists.specs.Words.{nibble, with_nibble, nibbles, entry_of}
+use Rattle.lists.specs.Words.{nibble, with_nibble, nibbles}
 use Rattle.lists.specs.Lists.{numbered, current_in}
 use Rattle.lists.proofs.Holdings.{times_bound}
 use Rattle.lists.proofs.Words.{read_set, read_other}
@@ -27,6 +26,11 @@ first (suc n) rest k = let e : n ≡ suc n - 1 = omega arith in ap (λ j. rest %
 pub ended : (left rest : ℕ) → left ≤ 0 → nibbles left rest ≡ []
 ended zero rest k = refl
 ended (suc n) rest k = absurd (omega arith)
+
+-- the number that is taken in a turn is below sixteen
+pub taken_small : (n w : ℕ) {t : ℕ} {r : List ℕ} → nibbles n w ≡ t ∷ r → t < 16
+taken_small zero w e = cc
+taken_small (suc n) w {t = t} e = let h : w % 16 ≡ t = cc in omega arith
 
 pub length-nibbles : (n w : ℕ) → length (nibbles n w) ≡ n
 length-nibbles zero w = refl
@@ -72,19 +76,10 @@ base_current base owner urgency t = go (eqb owner t)
     go true = omega arith
     go false = omega arith
 
--- a loop that counts each number at its place of a table
-pub counted : (found l : List ℕ) (k t : ℕ) → k < length found
-    → entry_of (set found k (entry_of found k + 1)) t + times (λ u. eqb u t) l ≡ entry_of found t + times (λ u. eqb u t) (k ∷ l)
-counted found l k t h = go (equal? k t)
-  where
-    go : (k ≡ t) ⊎ (k ≢ t) → entry_of (set found k (entry_of found k + 1)) t + times (λ u. eqb u t) l ≡ entry_of found t + times (λ u. eqb u t) (k ∷ l)
-    go (inl e) = rw (e, eq-eqb t t refl) (omega (arith, e, get_or-set_same found t (entry_of found t + 1) 0 (omega (arith, e))))
-    go (inr n) = rw (ne_eqb k t n, get_or-set_other found k t (entry_of found k + 1) 0 (λ e. n (sym e)))
-
 one_more : (x y n : ℕ) → x ≡ y + 1 → x + n ≡ y + suc n
 one_more x y n e = omega (arith, e)
 
--- and one that counts it at its place of a word
+-- a loop that counts each number at its place of a word
 pub marked : (w : ℕ) (l : List ℕ) (k t : ℕ) → nibble w k + 1 < 16
     → nibble (with_nibble w k (nibble w k + 1)) t + times (λ u. eqb u t) l ≡ nibble w t + times (λ u. eqb u t) (k ∷ l)
 marked w l k t h = go (equal? k t)

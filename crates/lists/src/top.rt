@@ -3,7 +3,8 @@ ghost use Rattle.std.specs.Prelude.{◌≡◌, ◌<◌};
 ghost use Rattle.keeping.specs.Top.{gained};
 ghost use Rattle.lists.specs.Lists.{top_of};
 
-// The thread holding the section of greatest ceiling, on a tie the one taken later, and that ceiling; 255 and 0 when nothing is held.
+// The thread holding the section of greatest ceiling, on a tie the one taken later, and that ceiling; 255 and 0 when nothing is held: it
+// stands in a struct that C lends, so its fields are plain numbers.
 #[repr(C)]
 #[derive(Clone, Copy)]
 pub struct Top {

@@ -1,7 +1,8 @@
 -- A record alone, as a dump of five bytes: it is read as that record, and what is asked of it can be asked of the dump. And a Tick at which nothing
 -- happens, which is not walked over.
 use mathlib.Core.Path.{◌≡◌, refl, ap, sym, subst, ◌∙◌}
-use mathlib.Core.Bool.{true}
+use mathlib.Core.Bool.{true, true≢false}
+use Rattle.std.specs.Prelude.{Ok}
 use mathlib.Core.List.{List, ◌∷◌}
 use Prim.Native.Nat.{ℕ}
 use native.Mathlib.Omega.{arith}
@@ -40,11 +41,11 @@ alone_asked {s} {k} {n} a c =
     }
 
 -- a Tick at which nothing happens moves the tick number alone
-pub still_advances : {s : State} {k n : ℕ} → Asked s k n → k ≡ 7 → still s ≡ true → {s' : State} → s' ≡ later s → Advances s' 0 s (record_of k n)
+pub still_advances : {s : State} {k n : ℕ} → Asked s k n → k ≡ 7 → still s ≡ true → {s' : State} → s' ≡ later s → Advances s' (Ok tt) s (record_of k n)
 still_advances {s} {k} {n} a q t {s'} e =
     record {
       outcome = ap (λ (x : State). moved (view x)) e ∙ sym (still_moves s a.formed' a.keeps (a.room q) t) ∙ ap (λ j. step (plan_of s.machine) (view s) (record_of j n)) (sym q);
       plan' = ap (λ (x : State). x.machine.plan) e;
-      stays = λ d. absurd (d refl);
+      stays = λ d. absurd (true≢false d);
       keeps = subst (λ (x : State). T (kept x.machine)) (sym e) a.keeps;
     }

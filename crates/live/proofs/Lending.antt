@@ -1,13 +1,14 @@
 -- One record on a lent state: what it leaves known where nothing refuses it, and what is told of it.
 use mathlib.Core.Path.{◌≡◌, refl, ap, ap₂, sym, ◌∙◌}
 use mathlib.Core.Logic.{◌⊎◌, inl, inr, ◌≢◌}
-use mathlib.Core.Bool.{Bool, false, not, ◌&&◌}
-use mathlib.Core.Option.{none}
+use mathlib.Core.Bool.{Bool, true, false, not, ◌&&◌}
+use mathlib.Core.Option.{none, some}
 use Prim.Native.Nat.{ℕ, ◌<◌}
 use native.Mathlib.Omega.{arith}
 use borrow.Author.Tests.{eq-eqb, ne_eqb}
 use lib.Dec.{T, eqb, T_not}
 use lib.ListN.{length}
+use Rattle.std.specs.Prelude.{Result, is_ok}
 use Rattle.model.specs.Plan.{Plan, threads}
 use Rattle.model.specs.State as state
 use Rattle.model.specs.Runs.{Outcome, moved, broke}
@@ -16,14 +17,15 @@ use Rattle.model.proofs.Tests.{and_left, and_right, and_both, eq_test, equal?}
 use Rattle.model.proofs.Laws.{WellFormed, all_yes}
 use Rattle.keeping.specs.Top.{Top, walk, set_by}
 use Rattle.keeping.proofs.Laws.{fits_walk, set-moved}
-use Rattle.plan.specs.Bytes.{number}
 use Rattle.plan.specs.declared.Plan as declared
 use Rattle.plan.specs.View as plans
-use Rattle.plan.proofs.Laws.{zero_none, number_some, threads_view}
+use Rattle.plan.proofs.Laws.{threads_view}
 use Rattle.machine.specs.declared.Machine.{Machine}
 use Rattle.machine.specs.declared.state.State.{State}
 use Rattle.lists.specs.Lists.{held, top_of}
 use Rattle.machine.specs.View.{plan_of, view}
+use Rattle.machine.specs.declared.rules.Rule.{Rule}
+use Rattle.machine.specs.Rules.{answer_number}
 use Rattle.machine.specs.Kept.{kept}
 use Rattle.machine.proofs.Laws.{formed_facts}
 use Rattle.dump.specs.Layout.{record_of}
@@ -34,7 +36,8 @@ use Rattle.live.specs.Watching as watching
 use Rattle.live.specs.Watching.{is_rule, questions, refusal, outcome_of, reply_of, stored, reply, after}
 use Rattle.walk.specs.Clauses.{Advances}
 use Rattle.walk.proofs.Laws.{answers_moved, answers_broke}
-use Rattle.live.specs.Clauses.{Asked, seen, Tells}
+use Rattle.live.specs.Clauses.{Asked, seen, question, Tells}
+use Rattle.live.specs.declared.live.Refusal.{Refusal}
 
 -- the answer Yes to 12, 7, 8 and 13
 pub record Passed (w : Watch) (kind operand : ℕ) : Type 0 where
@@ -45,11 +48,6 @@ pub record Passed (w : Watch) (kind operand : ℕ) : Type 0 where
   pub tick' : T (not (eqb kind 7 && eqb (view w.state).tick_number last_tick))
 
 module _ (w : Watch) (k n : ℕ) where
-  -- `refused` answers 0 only where nothing refuses the record
-  pub refusal_zero : number (refusal (seen w) k n) ≡ 0 → refusal (seen w) k n ≡ none
-  unfolding refusal
-  refusal_zero e = zero_none (questions (seen w) k n) tt e
-
   pub passed : refusal (seen w) k n ≡ none → Passed w k n
   unfolding refusal
   passed e =
@@ -97,9 +95,9 @@ broken_tells e = cc
 
 -- what a step answers and leaves, as the definitions have it: a question's number, a stored rule, or what the record does
 module _ (w : Watch) (k n : ℕ) where
-  refuses : {q : ℕ} → q ≡ number (refusal (seen w) k n) → q ≢ 0 → (reply (seen w) k n ≡ watching.refused q) × (after (seen w) k n ≡ seen w)
+  refuses : {q : ℕ} → refusal (seen w) k n ≡ some q → (reply (seen w) k n ≡ watching.refused q) × (after (seen w) k n ≡ seen w)
   unfolding reply after
-  refuses {q} e d = let o = number_some (refusal (seen w) k n) q e d in (rw o, rw o)
+  refuses {q} o = (rw o, rw o)
 
   module _ (e : refusal (seen w) k n ≡ none) where
     repeats : w.rule ≢ 0 → (reply (seen w) k n ≡ watching.broken w.rule) × (after (seen w) k n ≡ seen w)
@@ -112,9 +110,9 @@ module _ (w : Watch) (k n : ℕ) where
 
   -- the same of the code's answer and state
 
-  pub tells_refused : {q : ℕ} → q ≡ number (refusal (seen w) k n) → q ≢ 0 → Tells (record { watch = w; reply = says.Refused q }) w k n
-  tells_refused e d =
-      let r = refuses e d in
+  pub tells_refused : {q : Refusal} → some (question q) ≡ refusal (seen w) k n → Tells (record { watch = w; reply = says.Refused q }) w k n
+  tells_refused e =
+      let r = refuses (sym e) in
       record {
         answer = sym r.0;
         leaves = sym r.1;
@@ -135,10 +133,10 @@ module _ (w : Watch) (k n : ℕ) where
           breach' = λ m x y. absurd (d x);
         }
 
-    module _ (d : w.rule ≡ 0) {after' : State} {rule' : ℕ} (a : Advances after' rule' w.state (record_of k n)) where
-      pub tells_broken : rule' ≢ 0 → Tells (record { watch = record { state = w.state; rule = rule' }; reply = says.Broken rule' }) w k n
-      tells_broken f =
-          let r = judges e d (broke rule') (answers_broke a f) in
+    module _ (d : w.rule ≡ 0) {after' : State} {rule' : Result Unit Rule} (a : Advances after' rule' w.state (record_of k n)) where
+      pub tells_broken : is_ok rule' ≡ false → {m : ℕ} → m ≡ answer_number rule' → Tells (record { watch = record { state = w.state; rule = m }; reply = says.Broken m }) w k n
+      tells_broken f {m} q =
+          let r = judges e d (broke m) (rw q (answers_broke a f)) in
           record {
             answer = sym r.0;
             leaves = sym r.1;
@@ -148,7 +146,7 @@ module _ (w : Watch) (k n : ℕ) where
           }
 
       -- what is kept is what the record sets: both are the walk's result
-      sets : T (kept w.state.machine) → rule' ≡ 0 → top_of after'.machine.holds.top ≡ set_by (plan_of w.state.machine) (record_of k n) (view w.state) (top_of w.state.machine.holds.top)
+      sets : T (kept w.state.machine) → is_ok rule' ≡ true → top_of after'.machine.holds.top ≡ set_by (plan_of w.state.machine) (record_of k n) (view w.state) (top_of w.state.machine.holds.top)
       sets t f =
           let p = plan_of w.state.machine in
           fits_walk (plan_of after'.machine) (held after'.machine.holds) (top_of after'.machine.holds.top) a.keeps
@@ -156,7 +154,7 @@ module _ (w : Watch) (k n : ℕ) where
           ∙ sym (set-moved p (view w.state) (record_of k n) (view after') (answers_moved a f))
           ∙ ap (set_by p (record_of k n) (view w.state)) (sym (fits_walk p (held w.state.machine.holds) (top_of w.state.machine.holds.top) t))
 
-      pub tells_clean : {due : ℕ} → rule' ≡ 0 → due ≡ length (view after').due → Tells (record { watch = record { state = after'; rule = w.rule }; reply = says.Clean due }) w k n
+      pub tells_clean : {due : ℕ} → is_ok rule' ≡ true → due ≡ length (view after').due → Tells (record { watch = record { state = after'; rule = w.rule }; reply = says.Clean due }) w k n
       tells_clean f g =
           let r = judges e d (moved (view after')) (answers_moved a f) in
           record {

@@ -1,8 +1,10 @@
 -- What the live step asks and answers.
-use Rattle.std.specs.Prelude.{◌≡◌, List, ℕ, ◌<◌, T}
+use Rattle.std.specs.Prelude as code
+use Rattle.std.specs.Prelude.{◌≡◌, List, ℕ, ◌<◌, T, Some, None, Result, Ok, Err}
+use Rattle.std.proofs.Math.Option.{Option, none, some}
 use Rattle.model.specs.Formed.{last_tick, formed}
 use Rattle.plan.specs.Bytes as plans
-use Rattle.plan.specs.Bytes.{number}
+use Rattle.plan.specs.declared.bytes.Refusal as refusals
 use Rattle.machine.specs.declared.state.State.{State}
 use Rattle.lists.specs.Lists.{top_of}
 use Rattle.machine.specs.View.{plan_of, view}
@@ -13,6 +15,8 @@ use Rattle.live.specs.declared.live.Begun.{Begun}
 use Rattle.live.specs.declared.live.Reply as replies
 use Rattle.live.specs.declared.live.Reply.TheVariants as says
 use Rattle.live.specs.declared.live.Told.{Told}
+use Rattle.live.specs.declared.live.Refusal.{Refusal}
+use Rattle.live.specs.declared.live.Refusal.TheVariants.{State as BadState, Kind, Operand, LastTick}
 use Rattle.live.specs.Watching as watching
 use Rattle.live.specs.Watching.{Watched, begin, reply, after}
 
@@ -27,13 +31,30 @@ pub record Asked (s : State) (kind operand : ℕ) : Type 0 where
 abbrev pub seen : Watch → Watched
 seen w = record { plan = plan_of w.state.machine; state = view w.state; top = top_of w.state.machine.holds.top; rule = w.rule }
 
--- the refusal of a plan's bytes, 0 if there is none, and the state that is made of them
+-- what refuses a plan's bytes, by the number of the question
+abbrev pub plan_refused : code.Option refusals.Refusal → Option ℕ
+plan_refused None = none
+plan_refused (Some r) = some (plans.question r)
+
+-- what refuses a plan's bytes, if anything, and the state that is made of them
 pub record Begins (r : Begun) (plan : List ℕ) : Type 0 where
-  pub answer : r.refused ≡ number (plans.refusal plan)
+  pub answer : plan_refused r.refused ≡ plans.refusal plan
   pub leaves : seen r.watch ≡ begin plan
 
+-- the number of the question that a refusal of a step names
+abbrev pub question : Refusal → ℕ
+question BadState = 12
+question Kind = 7
+question Operand = 8
+question LastTick = 13
+
+-- what an answer refuses, by the number of the question
+abbrev pub refused_by : {A : Type 0} → Result A Refusal → Option ℕ
+refused_by (Ok a) = none
+refused_by (Err r) = some (question r)
+
 abbrev pub reply_as : replies.Reply → watching.Reply
-reply_as (says.Refused n) = watching.refused n
+reply_as (says.Refused r) = watching.refused (question r)
 reply_as (says.Clean d) = watching.clean d
 reply_as (says.Broken r) = watching.broken r
 

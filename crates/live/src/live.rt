@@ -3,12 +3,12 @@ ghost use Rattle.std.specs.Prelude.{◌≡◌, length, ◌<◌};
 ghost use Rattle.model.specs.Formed.{last_tick};
 ghost use Rattle.machine.specs.View.{view};
 ghost use Rattle.machine.specs.Clauses.{later};
-ghost use Rattle.plan.specs.Bytes.{number};
+ghost use Rattle.plan.specs.View.{view as plan_view};
 ghost use Rattle.dump.specs.Layout.{record_of};
 ghost use Rattle.walk.specs.Clauses.{Advances};
 ghost use Rattle.model.specs.Rules.{first_no};
-ghost use Rattle.live.specs.Watching.{is_rule, record_questions, refusal};
-ghost use Rattle.live.specs.Clauses.{Asked, seen, Begins, Tells};
+ghost use Rattle.live.specs.Watching.{is_rule, record_questions, refusal, fresh};
+ghost use Rattle.live.specs.Clauses.{Asked, seen, question, refused_by, Begins, Tells};
 ghost use Rattle.live.specs.declared.live.Reply.TheVariants as says;
 
 use clock::time::LAST_TICK;
@@ -28,17 +28,35 @@ pub struct Watch {
     pub rule: u8,
 }
 
-// The question that refuses a plan, 0 if there is none, and the watch state made of it.
+// What refuses a plan, if anything, and the watch state made of it. A refused plan has one too, so that this is no Result.
 #[derive(Clone, Copy)]
 pub struct Begun {
-    pub refused: u8,
+    pub refused: Option<bytes::Refusal>,
     pub watch: Watch,
 }
 
-// What a live step answers: the question that refuses it; clean, with the number due; or the broken rule.
-#[derive(Clone, Copy)]
+// What refuses a live step: the question among 12, 7, 8 and 13 with the first No.
+#[derive(Clone, Copy, Debug, PartialEq, Eq)]
+pub enum Refusal {
+    State = 12,
+    Kind = 7,
+    Operand = 8,
+    LastTick = 13,
+}
+
+impl Refusal {
+    // The number of the question. Rules out one number for all, and numbers that count from 7.
+    pub fn number(self) -> u8
+        ensures { result ≡ question self }
+    {
+        self as u8
+    }
+}
+
+// What a live step answers: what refuses it; clean, with the number due; or the number of the broken rule, which the lent state stores.
+#[derive(Clone, Copy, Debug, PartialEq, Eq)]
 pub enum Reply {
-    Refused(u8),
+    Refused(Refusal),
     Clean(usize),
     Broken(u8),
 }
@@ -49,25 +67,33 @@ pub struct Told {
     pub reply: Reply,
 }
 
+// A state at its start, with no breach stored.
+fn fresh(plan: Plan) -> Watch
+    ensures { seen result ≡ fresh (plan_view plan) }
+{
+    Watch {
+        state: State::fresh(plan),
+        rule: 0,
+    }
+}
+
 // A watch state is made from a plan that passes 1 to 4, and carries it; of another it carries no thread, so that every step answers 12.
 pub fn begin(plan: &[u8]) -> Begun
     ensures { Begins result plan.now }
 {
-    let q = bytes::refusal(plan);
-    let mut p = Plan {
-        threads: 0,
-        sections: 0,
-        bases: [0u8; 16],
-        needs: [0u16; 16],
-    };
-    if q == 0 {
-        p = bytes::read(plan);
-    }
-    Begun {
-        refused: q,
-        watch: Watch {
-            state: State::fresh(p),
-            rule: 0,
+    match bytes::parse(plan) {
+        Ok(p) => Begun {
+            refused: None,
+            watch: fresh(p),
+        },
+        Err(refusal) => Begun {
+            refused: Some(refusal),
+            watch: fresh(Plan {
+                threads: 0,
+                sections: 0,
+                bases: [0u8; 16],
+                needs: [0u16; 16],
+            }),
         },
     }
 }
@@ -79,33 +105,33 @@ fn is_rule(rule: u8) -> bool
     rule == 0 || (21 <= rule && rule <= 32)
 }
 
-// 7, 8 and 13, in this order: the number of the first No, 0 if there is none.
-fn record_refused(watch: Watch, kind: u8, operand: u16) -> u8
-    ensures { result ≡ number (first_no (record_questions (seen watch) kind operand)) }
+// 7, 8 and 13, in this order: the first No refuses. Any byte may come for a kind, here and below.
+fn ask_record(watch: Watch, kind: u8, operand: u16) -> Result<(), Refusal>
+    ensures { refused_by result ≡ first_no (record_questions (seen watch) kind operand) }
 {
     if !kind_allowed(false, kind) {
-        return 7;
+        return Err(Refusal::Kind);
     }
     let m = watch.state.machine;
     let p = m.plan;
     if !operand_fits(p.threads, p.sections, kind, operand) {
-        return 8;
+        return Err(Refusal::Operand);
     }
     let t = m.tick;
     if kind == 7 && t.0 == LAST_TICK.0 {
-        return 13;
+        return Err(Refusal::LastTick);
     }
-    0
+    Ok(())
 }
 
 // 12 and behind it 7, 8 and 13. What is asked of the record is found before, since it takes a few numbers of the state, and 12 takes all.
-fn refused(watch: Watch, kind: u8, operand: u16) -> u8
-    ensures { result ≡ number (refusal (seen watch) kind operand) }
+fn ask(watch: Watch, kind: u8, operand: u16) -> Result<(), Refusal>
+    ensures { refused_by result ≡ refusal (seen watch) kind operand }
 {
-    let later = record_refused(watch, kind, operand);
+    let later = ask_record(watch, kind, operand);
     let s = watch.state;
     if !formed(s) || !is_rule(watch.rule) {
-        return 12;
+        return Err(Refusal::State);
     }
     later
 }
@@ -117,7 +143,8 @@ fn judged(state: State, kind: u8, operand: u16) -> Stepped
 {
     let p = state.machine.plan;
     let all = ceilings(p);
-    let bytes = [1u8, 0, kind, (operand % 256) as u8, (operand / 256) as u8];
+    let [low, high] = operand.to_le_bytes();
+    let bytes = [1u8, 0, kind, low, high];
     step(state, &all, &bytes, 0, first_operand(1))
 }
 
@@ -167,11 +194,10 @@ fn breached(watch: Watch, rule: u8) -> Told
 pub fn live(watch: Watch, kind: u8, operand: u16) -> Told
     ensures { Tells result watch kind operand }
 {
-    let no = refused(watch, kind, operand);
-    if no != 0 {
+    if let Err(refusal) = ask(watch, kind, operand) {
         return Told {
             watch,
-            reply: Reply::Refused(no),
+            reply: Reply::Refused(refusal),
         };
     }
     if watch.rule != 0 {
@@ -184,8 +210,8 @@ pub fn live(watch: Watch, kind: u8, operand: u16) -> Told
         return ticked(watch);
     }
     let o = judged(watch.state, kind, operand);
-    if o.rule != 0 {
-        return breached(watch, o.rule);
+    if let Err(rule) = o.rule {
+        return breached(watch, rule.number());
     }
     let after = o.state;
     moved(watch, after)

@@ -1,9 +1,11 @@
 -- What is asked of the machine of each call, what its rules say where it breaks none, and what it makes before its Switch.
 use mathlib.Core.Path.{◌≡◌, refl, ap, ap₂, sym, subst, ◌∙◌}
+use mathlib.Core.Bool.{true, false, true≢false}
 use mathlib.Core.List.{[]}
 use mathlib.Core.Option.{Option, some}
 use Prim.Native.Nat.{ℕ, ◌<◌}
 use lib.Dec.{T}
+use Rattle.std.specs.Prelude.{Result, is_ok}
 use Rattle.model.specs.Plan.{may_take}
 use Rattle.model.specs.Records.{Call, call}
 use Rattle.model.specs.State as state
@@ -13,12 +15,13 @@ use Rattle.model.specs.Calls.{perform, by_caller}
 use Rattle.model.specs.Rules.{holds_not, last_taken, stage, broken}
 use Rattle.model.specs.Formed.{last_tick}
 use Rattle.lists.specs.Lists.{numbered}
+use Rattle.machine.specs.declared.rules.Rule.{Rule}
 use Rattle.machine.specs.declared.Machine.{Machine}
 use Rattle.due.specs.declared.reports.Reports.{Reports}
 use Rattle.due.specs.Lists.{owed}
 use Rattle.machine.specs.View.{plan_of, viewed, idle}
 use Rattle.machine.specs.Kept.{kept}
-use Rattle.machine.specs.Rules.{rule_number}
+use Rattle.machine.specs.Rules.{rule_number, answer_number}
 use Rattle.machine.proofs.Facts.{Formed}
 
 -- What each call asks. The caller is the number of the chosen thread, 255 where there is none; an arming has come to the call's place.
@@ -77,28 +80,28 @@ pub record Meets (left : Machine) (rs : Reports) (m : Machine) (st : state.State
   pub seen : viewed left (owed rs) ≡ st
   pub keeps : T (kept left)
 
--- The first broken rule, 0 if there is none; then what the model's call makes of the state that came, or this state.
-pub record MakesOf (st : state.State) (left : Machine) (rs : Reports) (rule : ℕ) (m : Machine) (k : Call) : Type 0 where
+-- The first broken rule, if any; then what the model's call makes of the state that came, or this state.
+pub record MakesOf (st : state.State) (left : Machine) (rs : Reports) (rule : Result Unit Rule) (m : Machine) (k : Call) : Type 0 where
   pub plan' : left.plan ≡ m.plan
-  pub rule' : rule ≡ rule_number (broken (plan_of m) st (call k))
-  pub made : rule ≡ 0 → viewed left (owed rs) ≡ perform (plan_of m) k st
-  pub stays : (rule ≡ 0 → ⊥) → viewed left (owed rs) ≡ st
+  pub rule' : answer_number rule ≡ rule_number (broken (plan_of m) st (call k))
+  pub made : is_ok rule ≡ true → viewed left (owed rs) ≡ perform (plan_of m) k st
+  pub stays : is_ok rule ≡ false → viewed left (owed rs) ≡ st
   pub keeps : T (kept left)
 
 -- calls other than Tick come with nothing due
-abbrev pub Makes : (left : Machine) (rs : Reports) (rule : ℕ) (m : Machine) (k : Call) → Type 0
+abbrev pub Makes : (left : Machine) (rs : Reports) (rule : Result Unit Rule) (m : Machine) (k : Call) → Type 0
 Makes left rs rule m k = MakesOf (idle m) left rs rule m k
 
 same : {left left' : Machine} {rs rs' : Reports} {m : Machine} {st : state.State} → left ≡ left' → rs ≡ rs' → Meets left' rs' m st → Meets left rs m st
 same a b w = record { plan' = ap (λ (x : Machine). x.plan) a ∙ w.plan'; seen = ap₂ (λ (x : Machine) (l : Reports). viewed x (owed l)) a b ∙ w.seen; keeps = subst (λ (x : Machine). T (kept x)) (sym a) w.keeps }
 
 -- a call that breaks no rule, and one that does, which leaves the machine and no report; on either way both are those named last
-module _ {left : Machine} {rs rs' : Reports} {rule : ℕ} {m : Machine} {k : Call} (e : rule ≡ asked m k) where
-  pub admits : {left' : Machine} {st : state.State} → perform (plan_of m) k (idle m) ≡ st → rule ≡ 0 → left ≡ left' → rs ≡ rs' → Meets left' rs' m st → Makes left rs rule m k
-  admits q z a b w = let v = same a b w in record { plan' = v.plan'; rule' = e; made = λ k. v.seen ∙ sym q; stays = λ d. absurd (d z); keeps = v.keeps }
+module _ {left : Machine} {rs rs' : Reports} {rule : Result Unit Rule} {m : Machine} {k : Call} (e : answer_number rule ≡ asked m k) where
+  pub admits : {left' : Machine} {st : state.State} → perform (plan_of m) k (idle m) ≡ st → is_ok rule ≡ true → left ≡ left' → rs ≡ rs' → Meets left' rs' m st → Makes left rs rule m k
+  admits q z a b w = let v = same a b w in record { plan' = v.plan'; rule' = e; made = λ k. v.seen ∙ sym q; stays = λ d. absurd (true≢false (sym z ∙ d)); keeps = v.keeps }
 
-  pub refuses : T (kept m) → (rule ≡ 0 → ⊥) → left ≡ m → rs ≡ rs' → owed rs' ≡ [] → Makes left rs rule m k
-  refuses t d a b n = let v = same {m = m} a b (record { plan' = refl; seen = ap (viewed m) n; keeps = t }) in record { plan' = v.plan'; rule' = e; made = λ z. absurd (d z); stays = λ k. v.seen; keeps = v.keeps }
+  pub refuses : T (kept m) → is_ok rule ≡ false → left ≡ m → rs ≡ rs' → owed rs' ≡ [] → Makes left rs rule m k
+  refuses t d a b n = let v = same {m = m} a b (record { plan' = refl; seen = ap (viewed m) n; keeps = t }) in record { plan' = v.plan'; rule' = e; made = λ z. absurd (true≢false (sym z ∙ d)); stays = λ k. v.seen; keeps = v.keeps }
 
 -- what the model's call of the chosen thread does
 pub by : {m : Machine} {x : ℕ} → Runs m x → (act : ℕ → state.State → state.State) → by_caller (chosen (plan_of m) (idle m)) act (idle m) ≡ act x (idle m)

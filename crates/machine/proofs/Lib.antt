@@ -3,6 +3,7 @@ mod Sized
 mod Conditions
 mod Views
 mod Facts
+mod Answered
 mod Admitted
 mod Room
 mod Keeping

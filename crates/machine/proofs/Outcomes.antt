@@ -7,6 +7,7 @@ use Prim.Native.Nat.{ℕ, ◌+◌, ◌≤◌, ◌<◌}
 use native.Mathlib.Omega.{arith}
 use borrow.Author.Tests.{eq-eqb, ne_eqb}
 use lib.Dec.{eqb, leb, leb→le, ltb→lt}
+use Rattle.std.specs.Prelude.{Result, Ok, is_ok}
 use Rattle.model.specs.Plan as plan
 use Rattle.model.specs.Plan.{threads}
 use Rattle.model.specs.Records as records
@@ -23,6 +24,7 @@ use Rattle.plan.specs.View as plans
 use Rattle.plan.proofs.Laws.{threads_view}
 use Rattle.lists.specs.Lists.{numbered}
 use Rattle.lists.proofs.Laws.{numbered-thread_of}
+use Rattle.machine.specs.declared.rules.Rule.{Rule}
 use Rattle.machine.specs.declared.Machine.{Machine}
 use Rattle.clock.specs.declared.time.Tick.{Tick}
 use Rattle.due.specs.declared.reports.Reports.{Reports}
@@ -31,6 +33,7 @@ use Rattle.due.specs.Lists.{report_room, thread_of, listed, owed}
 use Rattle.machine.specs.View.{plan_of, viewed, idle, report_at, shown}
 use Rattle.machine.specs.Clauses.{owing, passed}
 use Rattle.machine.specs.Calls.{Apart, Quiet, Stands, Asks, Calls, Ticks, Answers}
+use Rattle.machine.proofs.Answered.{yes_or_no, zero_of}
 use Rattle.machine.proofs.Admitted.{CreateAsked, Asked, SectionAsked, TickAsked, asked, MakesOf, Makes, by}
 use Rattle.machine.proofs.Facts.{Formed, facts}
 use Rattle.due.proofs.Laws.{none_due, switch_to_lem}
@@ -48,18 +51,18 @@ unfolding chosen current greatest_hold
 chosen_ticked p n st = refl
 
 -- what is due of a machine that owes: the reports of the array, and behind them the Switch if there is one
-module _ (m : Machine) (rs : Reports) (rule who : ℕ) (quiet : Tick) where
+module _ (m : Machine) (rs : Reports) (rule : Result Unit Rule) (who : ℕ) (quiet : Tick) where
   abbrev owes : Reporting
   owes = owing m rs rule who quiet
 
-  module _ (e : eqb rule 0 && not (eqb who m.reported) ≡ false) where
+  module _ (e : is_ok rule && not (eqb who m.reported) ≡ false) where
     none_shown : shown owes ≡ viewed m (owed rs)
     none_shown = ap (λ b. viewed m (listed (report_at owes) (cond b (rs.count + 1) rs.count))) e ∙ ap (viewed m) (in_array owes)
 
     none_apart : Apart owes
     none_apart = record { apart = inl (ap (λ b. cond b (rs.count + 1) rs.count) e) }
 
-  module _ (e : eqb rule 0 && not (eqb who m.reported) ≡ true) where
+  module _ (e : is_ok rule && not (eqb who m.reported) ≡ true) where
     last_shown : who < 256 → shown owes ≡ viewed m (owed rs ++ (Switch (thread_of who) ∷ []))
     last_shown w =
         ap (λ b. viewed m (listed (report_at owes) (cond b (rs.count + 1) rs.count))) e
@@ -119,7 +122,7 @@ module _ {c : Reporting} where
   leaves (records.Timing k) a z = timed (formed_idle a.asks) k
 
 -- what a call leaves before its Switch: a machine and its reports
-module _ {c : Reporting} {k : Call} (a : Asks c (call k)) {left : Machine} {rs : Reports} {rule : ℕ} (made : MakesOf (shown c) left rs rule c.machine k)
+module _ {c : Reporting} {k : Call} (a : Asks c (call k)) {left : Machine} {rs : Reports} {rule : Result Unit Rule} (made : MakesOf (shown c) left rs rule c.machine k)
     (enough : After c.machine.plan.threads (viewed left (owed rs))) where
   -- it is enough to find the chosen thread
   pub left_settles : Settles left rs
@@ -133,9 +136,9 @@ module _ {c : Reporting} {k : Call} (a : Asks c (call k)) {left : Machine} {rs :
     stands p = record { keeps = made.keeps; apart' = p; quiet' = still }
 
     -- it moves the machine, where it stands for what the model's call and its Switch make
-    moved_by : rule ≡ 0 → shown after ≡ switch (plan_of left) (viewed left (owed rs)) → Apart after → Answers after c (call k)
+    moved_by : is_ok rule ≡ true → shown after ≡ switch (plan_of left) (viewed left (owed rs)) → Apart after → Answers after c (call k)
     moved_by z v p =
-        moves c after made.plan' (sym made.rule' ∙ z) z
+        moves c after made.plan' made.rule' z
         (v
         ∙ ap (λ (q : plan.Plan). switch q (viewed left (owed rs))) (ap plans.view made.plan')
         ∙ ap (switch (plan_of c.machine)) (made.made z))
@@ -143,29 +146,29 @@ module _ {c : Reporting} {k : Call} (a : Asks c (call k)) {left : Machine} {rs :
 
     -- the call with its Switch, with none, or barred
     pub left_answers : Answers after c (call k)
-    left_answers = go (equal? rule 0) (equal? who left.reported)
+    left_answers = go (yes_or_no (is_ok rule)) (equal? who left.reported)
       where
-        go : (rule ≡ 0) ⊎ (rule ≢ 0) → (who ≡ left.reported) ⊎ (who ≢ left.reported) → Answers after c (call k)
+        go : (is_ok rule ≡ true) ⊎ (is_ok rule ≡ false) → (who ≡ left.reported) ⊎ (who ≢ left.reported) → Answers after c (call k)
         go (inl z) (inl q) =
-            let e : eqb rule 0 && not (eqb who left.reported) ≡ false = rw (eq-eqb rule 0 z, eq-eqb who left.reported q) in
+            let e : is_ok rule && not (eqb who left.reported) ≡ false = rw (z, eq-eqb who left.reported q) in
             moved_by z (none_shown left rs rule who quiet e ∙ unswitched left_settles who is q) (none_apart left rs rule who quiet e)
         go (inl z) (inr d) =
-            let e : eqb rule 0 && not (eqb who left.reported) ≡ true = rw (eq-eqb rule 0 z, ne_eqb who left.reported d) in
+            let e : is_ok rule && not (eqb who left.reported) ≡ true = rw (z, ne_eqb who left.reported d) in
             moved_by z (last_shown left rs rule who quiet e (one_byte left_settles who is) ∙ switched left_settles who is d) (last_apart left rs rule who quiet e left_settles.room)
         go (inr d) q =
-            let e : eqb rule 0 && not (eqb who left.reported) ≡ false = rw (ne_eqb rule 0 d) in
+            let e : is_ok rule && not (eqb who left.reported) ≡ false = rw d in
             breaks c after made.plan' (none_shown left rs rule who quiet e ∙ made.stays d) made.rule' d (stands (none_apart left rs rule who quiet e))
 
 -- a call with nothing due
-module _ {c : Reporting} {k : Call} (a : Calls c k) {left : Machine} {rs : Reports} {rule : ℕ} (made : Makes left rs rule c.machine k) where
+module _ {c : Reporting} {k : Call} (a : Calls c k) {left : Machine} {rs : Reports} {rule : Result Unit Rule} (made : Makes left rs rule c.machine k) where
   as_shown : MakesOf (shown c) left rs rule c.machine k
   as_shown = subst (λ (st : state.State). MakesOf st left rs rule c.machine k) (sym (comes_idle a)) made
 
   enough : After c.machine.plan.threads (viewed left (owed rs))
-  enough = go (equal? rule 0)
+  enough = go (yes_or_no (is_ok rule))
     where
-      go : (rule ≡ 0) ⊎ (rule ≢ 0) → After c.machine.plan.threads (viewed left (owed rs))
-      go (inl z) = subst (After c.machine.plan.threads) (sym (made.made z)) (leaves k a (sym made.rule' ∙ z))
+      go : (is_ok rule ≡ true) ⊎ (is_ok rule ≡ false) → After c.machine.plan.threads (viewed left (owed rs))
+      go (inl z) = subst (After c.machine.plan.threads) (sym (made.made z)) (leaves k a (sym made.rule' ∙ zero_of rule z))
       go (inr d) = subst (After c.machine.plan.threads) (sym (made.stays d)) (before (facts (formed_idle a.asks)))
 
   pub call_settles : Settles left rs
@@ -179,18 +182,18 @@ module _ {c : Reporting} {k : Call} (a : Calls c k) {left : Machine} {rs : Repor
   quiet_answers d is = call_answers is (call_quiet made d a.asks.stands.quiet')
 
 -- a Tick, whatever is due
-module _ {c : Reporting} (a : Ticks c) {left : Machine} {rs : Reports} (made : MakesOf (shown c) left rs 0 c.machine records.Tick) where
+module _ {c : Reporting} (a : Ticks c) {left : Machine} {rs : Reports} (made : MakesOf (shown c) left rs (Ok tt) c.machine records.Tick) where
   ticks_on : After c.machine.plan.threads (viewed left (owed rs))
   ticks_on = subst (After c.machine.plan.threads) (sym (made.made refl)) (ticked (tick_asked a) (shown c).due (claims_room a.asks))
 
   pub tick_settles : Settles left rs
   tick_settles = left_settles a.asks made ticks_on
 
-  pub tick_answers : {who : ℕ} {quiet : Tick} → who ≡ numbered (chosen (plan_of left) (idle left)) → Quiet left quiet.0 → Answers (owing left rs 0 who quiet) c (call records.Tick)
+  pub tick_answers : {who : ℕ} {quiet : Tick} → who ≡ numbered (chosen (plan_of left) (idle left)) → Quiet left quiet.0 → Answers (owing left rs (Ok tt) who quiet) c (call records.Tick)
   tick_answers is still = left_answers a.asks made ticks_on is still
 
 -- a Tick at which nothing happens
-module _ {c : Reporting} (a : Calls c records.Tick) (z : c.rule ≡ 0) (below : c.machine.tick.0 + 1 < c.quiet.0) where
+module _ {c : Reporting} (a : Calls c records.Tick) (z : is_ok c.rule ≡ true) (below : c.machine.tick.0 + 1 < c.quiet.0) where
   abbrev m : Machine
   m = c.machine
 
@@ -207,7 +210,7 @@ module _ {c : Reporting} (a : Calls c records.Tick) (z : c.rule ≡ 0) (below : 
 
   pub passed_answers : Answers (passed c) c (call records.Tick)
   passed_answers =
-      moves c (passed c) refl (sym (tick_rule (tick_asked (record { asks = a.asks; ordered = a.ordered })) (shown c).due)) z
+      moves c (passed c) refl (zero_of c.rule z ∙ tick_rule (tick_asked (record { asks = a.asks; ordered = a.ordered })) (shown c).due) z
       (passed_shown ∙ sym unswitched_tick ∙ ap (λ (st : state.State). effect (plan_of m) (call records.Tick) st) (sym (comes_idle a)))
       (record {
         keeps = a.asks.stands.keeps;

@@ -1,6 +1,6 @@
 -- A Tick before the tick number at which the next thing happens changes the tick number alone, and most calls keep such a number.
 use mathlib.Core.Path.{◌≡◌, refl, ap, sym, subst, ◌∙◌}
-use mathlib.Core.Logic.{◌⊎◌, inl, inr, ◌≢◌}
+use mathlib.Core.Logic.{◌⊎◌, inl, inr}
 use mathlib.Core.Bool.{Bool, true, false, cond, not, ◌&&◌, true≢false}
 use mathlib.Core.Option.{Option, none, some}
 use mathlib.Core.List.Memᴰ.{head as here}
@@ -11,6 +11,7 @@ use native.Mathlib.Omega.{arith}
 use borrow.Author.Tests.{ne_eqb}
 use lib.Dec.{T, ltb, eqb→eq, ltb→lt, nltb→le}
 use lib.ListN.{length, get_or, set}
+use Rattle.std.specs.Prelude.{Result, Ok, is_ok}
 use Rattle.model.specs.Searches.{◌▷◌, filter, up_to}
 use Rattle.model.specs.Plan.{Plan}
 use Rattle.model.specs.Priorities.{chosen}
@@ -21,7 +22,7 @@ use Rattle.model.specs.Records as records
 use Rattle.model.specs.Records.{timer_count, Call, Create, Delay, Relinquish, End, Take, Give, Timing, Ready, Expire}
 use Rattle.model.specs.Calls.{create, sleeps_until, sleepers, still_asleep, tick, rivalled, relinquish, end, above_all, held_by_others, take, heir, hand_over, give, by_caller, perform}
 use Rattle.model.specs.Rules.{stage}
-use Rattle.model.proofs.Tests.{split, equal?, and_left}
+use Rattle.model.proofs.Tests.{split, and_left}
 use Rattle.model.proofs.Searches.{filtered}
 use Rattle.model.proofs.Laws.{tag, Sleeps, sleeper, wake_up}
 use Rattle.model.proofs.Loops.{length-listed, unlisted}
@@ -32,11 +33,13 @@ use Rattle.clock.specs.View as timing
 use Rattle.clock.specs.View.{number_at}
 use Rattle.clock.specs.Clauses.{soonest as soonest_expiry}
 use Rattle.clock.proofs.Laws.{soonest_least as soonest-expiry}
+use Rattle.machine.specs.declared.rules.Rule.{Rule}
 use Rattle.machine.specs.declared.Machine.{Machine}
 use Rattle.due.specs.declared.reports.Reports.{Reports}
 use Rattle.machine.specs.View.{condition_in, plan_of, viewed, idle}
 use Rattle.machine.specs.Clauses.{soonest, next_event_of}
 use Rattle.machine.specs.Calls.{Quiet}
+use Rattle.machine.proofs.Answered.{yes_or_no}
 use Rattle.machine.proofs.Admitted.{MakesOf, Makes}
 use Rattle.machine.proofs.Conditions.{sleeps_at}
 use Rattle.machine.proofs.Facts.{Facts}
@@ -77,7 +80,7 @@ next_quiet m z = go (idle m).timers.arming refl
     go (after_start i s) e = rw e (unknown_quiet m)
 
 -- after a Tick the order of Delays still names each sleeper just once
-pub tick_sleeps : {m left : Machine} {rs : Reports} {due : List records.Report} → Facts m → MakesOf (viewed m due) left rs 0 m records.Tick → Sleeps (idle left).conditions (idle left).delays
+pub tick_sleeps : {m left : Machine} {rs : Reports} {due : List records.Report} → Facts m → MakesOf (viewed m due) left rs (Ok tt) m records.Tick → Sleeps (idle left).conditions (idle left).delays
 unfolding tick
 tick_sleeps {m} {due = due} f makes = subst (λ (st : State). Sleeps st.conditions st.delays) (sym (makes.made refl)) (wake_up (suc m.tick.0) (viewed m due) f.sleeps)
 
@@ -160,10 +163,10 @@ module _ {until : ℕ} where
       }
 
 -- so a call that does not forget it keeps the tick number before which nothing happens
-pub call_quiet : {m left : Machine} {rs : Reports} {rule until : ℕ} {k : Call} → Makes left rs rule m k → forgets k ≡ false → Quiet m until → Quiet left until
-call_quiet {m} {left} {rs} {rule} {until} {k} makes d q = go (equal? rule 0)
+pub call_quiet : {m left : Machine} {rs : Reports} {rule : Result Unit Rule} {until : ℕ} {k : Call} → Makes left rs rule m k → forgets k ≡ false → Quiet m until → Quiet left until
+call_quiet {m} {left} {rs} {rule} {until} {k} makes d q = go (yes_or_no (is_ok rule))
   where
-    go : (rule ≡ 0) ⊎ (rule ≢ 0) → Quiet left until
+    go : (is_ok rule ≡ true) ⊎ (is_ok rule ≡ false) → Quiet left until
     go (inl z) = quiet_by m left (ap (λ (st : State). st.conditions) (makes.made z)) (ap (λ (st : State). st.timers) (makes.made z)) q (stays_still until (idle m).timers (plan_of m) (idle m) k d (still_by m q))
     go (inr z) = quiet_by m left (ap (λ (st : State). st.conditions) (makes.stays z)) (ap (λ (st : State). st.timers) (makes.stays z)) q (still_by m q)
 

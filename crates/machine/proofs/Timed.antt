@@ -1,11 +1,10 @@
 -- What the calls that set timers share: they leave a machine with other timers, and the same thread chosen.
 use mathlib.Core.Path.{◌≡◌, refl, ap, sym, ◌∙◌}
-use mathlib.Core.Logic.{◌⊎◌, inl, inr, ◌≢◌}
+use mathlib.Core.Logic.{◌⊎◌, inl, inr}
 use mathlib.Core.Bool.{Bool, true, false, cond}
 use mathlib.Core.List.{List, []}
-use Prim.Native.Nat.{ℕ}
-use borrow.Author.Tests.{eq-eqb, ne_eqb}
-use lib.Dec.{T, eqb}
+use lib.Dec.{T}
+use Rattle.std.specs.Prelude.{Result, is_ok}
 use Rattle.model.specs.Plan as plan
 use Rattle.model.specs.Records as records
 use Rattle.model.specs.Records.{TimerCall, Timing}
@@ -14,11 +13,11 @@ use Rattle.model.specs.Timers.{set_timer, late_due}
 use Rattle.model.specs.State as state
 use Rattle.model.specs.Priorities.{greatest_hold, current, chosen}
 use Rattle.model.specs.Calls as calls
-use Rattle.model.proofs.Tests.{equal?}
 use Rattle.plan.specs.View as plans
 use Rattle.lists.specs.Lists.{numbered}
 use Rattle.clock.specs.declared.timers.Timers.{Timers}
 use Rattle.clock.specs.View as timing
+use Rattle.machine.specs.declared.rules.Rule.{Rule}
 use Rattle.machine.specs.declared.Machine.{Machine}
 use Rattle.due.specs.declared.reports.Reports.{Reports}
 use Rattle.due.specs.declared.made.Made.{Made}
@@ -28,6 +27,8 @@ use Rattle.machine.specs.View.{plan_of, viewed, idle}
 use Rattle.machine.specs.Kept.{kept}
 use Rattle.machine.specs.Clauses.{owing}
 use Rattle.machine.specs.Calls.{Calls, Called}
+use Rattle.machine.specs.Rules.{answer_number}
+use Rattle.machine.proofs.Answered.{yes_or_no}
 use Rattle.machine.proofs.Admitted.{asked, Makes}
 use Rattle.machine.proofs.Quieted.{unknown_quiet}
 use Rattle.machine.proofs.Switched.{chosen_due}
@@ -42,17 +43,17 @@ seen_so : (m : Machine) (ts : Timers) (rs : Reports) {to : model.Timers} {due : 
 seen_so m ts rs e d = λ i. state.set_timers (e i) (viewed m (d i))
 
 -- it is what the model's call makes, or where a rule is broken the machine as it came
-pub sets : (m : Machine) → T (kept m) → (k : TimerCall) (ts : Timers) (rs : Reports) {rule : ℕ} → rule ≡ asked m (Timing k)
-    → timing.view ts ≡ cond (eqb rule 0) (set_timer k m.tick.0 (timing.view m.timers)) (timing.view m.timers)
-    → owed rs ≡ cond (eqb rule 0) (late_due k m.tick.0 (timing.view m.timers)) []
+pub sets : (m : Machine) → T (kept m) → (k : TimerCall) (ts : Timers) (rs : Reports) {rule : Result Unit Rule} → answer_number rule ≡ asked m (Timing k)
+    → timing.view ts ≡ cond (is_ok rule) (set_timer k m.tick.0 (timing.view m.timers)) (timing.view m.timers)
+    → owed rs ≡ cond (is_ok rule) (late_due k m.tick.0 (timing.view m.timers)) []
     → Makes (retimed m ts) rs rule m (Timing k)
 unfolding calls.timing
 sets m t k ts rs {rule} r e d =
     record {
       plan' = refl;
       rule' = r;
-      made = λ z. seen_so m ts rs (rw (eq-eqb rule 0 z) at e) (rw (eq-eqb rule 0 z) at d);
-      stays = λ n. seen_so m ts rs (rw (ne_eqb rule 0 n) at e) (rw (ne_eqb rule 0 n) at d);
+      made = λ z. seen_so m ts rs (rw z at e) (rw z at d);
+      stays = λ n. seen_so m ts rs (rw n at e) (rw n at d);
       keeps = t;
     }
 
@@ -66,11 +67,11 @@ chosen_timed : (p : plan.Plan) (k : TimerCall) (st : state.State) → chosen p (
 unfolding chosen current greatest_hold calls.timing
 chosen_timed p k st = refl
 
-module _ {c : Reporting} {k : TimerCall} (a : Calls c (Timing k)) {left : Machine} {rs : Reports} {rule : ℕ} (made : Makes left rs rule c.machine (Timing k)) where
+module _ {c : Reporting} {k : TimerCall} (a : Calls c (Timing k)) {left : Machine} {rs : Reports} {rule : Result Unit Rule} (made : Makes left rs rule c.machine (Timing k)) where
   still_chosen : chosen (plan_of left) (idle left) ≡ chosen (plan_of c.machine) (idle c.machine)
-  still_chosen = sym (chosen_due (plan_of left) left (owed rs)) ∙ ap (λ (p : plan.Plan). chosen p (viewed left (owed rs))) (ap plans.view made.plan') ∙ go (equal? rule 0)
+  still_chosen = sym (chosen_due (plan_of left) left (owed rs)) ∙ ap (λ (p : plan.Plan). chosen p (viewed left (owed rs))) (ap plans.view made.plan') ∙ go (yes_or_no (is_ok rule))
     where
-      go : (rule ≡ 0) ⊎ (rule ≢ 0) → chosen (plan_of c.machine) (viewed left (owed rs)) ≡ chosen (plan_of c.machine) (idle c.machine)
+      go : (is_ok rule ≡ true) ⊎ (is_ok rule ≡ false) → chosen (plan_of c.machine) (viewed left (owed rs)) ≡ chosen (plan_of c.machine) (idle c.machine)
       go (inl z) = ap (chosen (plan_of c.machine)) (made.made z) ∙ chosen_timed (plan_of c.machine) k (idle c.machine)
       go (inr d) = ap (chosen (plan_of c.machine)) (made.stays d)
 

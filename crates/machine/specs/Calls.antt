@@ -1,5 +1,5 @@
 -- What a call and a report ask, and that they answer what one step of the model does.
-use Rattle.std.specs.Prelude.{◌≡◌, ◌⊎◌, Bool, cond, List, [], ℕ, ◌+◌, ◌%◌, ◌≤◌, ◌<◌, T, eqb}
+use Rattle.std.specs.Prelude.{◌≡◌, Result, Ok, Err, is_ok, ◌⊎◌, Bool, true, false, cond, List, [], ℕ, ◌+◌, ◌%◌, ◌≤◌, ◌<◌, T, eqb}
 use Rattle.std.proofs.Math.Option.{some}
 use Rattle.model.specs.Records as records
 use Rattle.model.specs.State.{asleep}
@@ -11,6 +11,8 @@ use Rattle.clock.specs.declared.time.Tick.{Tick}
 use Rattle.clock.specs.declared.timers.Timers.{Timers}
 use Rattle.clock.specs.View as timing
 use Rattle.clock.specs.Clauses.{kind_place}
+use Rattle.machine.specs.declared.rules.Rule.{Rule}
+use Rattle.machine.specs.declared.rules.Rule.TheVariants.{NoneDue}
 use Rattle.machine.specs.declared.slots.Slots.{Slots}
 use Rattle.machine.specs.declared.Machine.{Machine}
 use Rattle.due.specs.declared.made.Made.{Made}
@@ -19,7 +21,7 @@ use Rattle.machine.specs.declared.state.State.{State}
 use Rattle.due.specs.Lists.{report_room, Tells}
 use Rattle.machine.specs.View.{condition_in, plan_of, idle, view, report_at, shown}
 use Rattle.machine.specs.Kept.{kept}
-use Rattle.machine.specs.Rules.{rule_number, due_rule}
+use Rattle.machine.specs.Rules.{rule_number, answer_number, due_rule}
 use Rattle.machine.specs.Clauses.{Ceilings, next_event_of}
 
 -- the Switch has a place behind the reports of the array, and nothing else stands apart from it
@@ -68,9 +70,9 @@ pub record Ticks (c : Reporting) : Type 0 where
 -- What is answered of a record: what the model's step answers, the state after it with all its reports due, or the broken rule, which leaves
 -- the state as it came.
 pub record Answers (after c : Reporting) (r : records.Record) : Type 0 where
-  pub outcome : cond (eqb after.rule 0) (moved (shown after)) (broke after.rule) ≡ step (plan_of c.machine) (shown c) r
+  pub outcome : cond (is_ok after.rule) (moved (shown after)) (broke (answer_number after.rule)) ≡ step (plan_of c.machine) (shown c) r
   pub plan' : after.machine.plan ≡ c.machine.plan
-  pub stays : (after.rule ≡ 0 → ⊥) → shown after ≡ shown c
+  pub stays : is_ok after.rule ≡ false → shown after ≡ shown c
   pub stands' : Stands after
 
 -- the tick number before which nothing happens, after a call: asked anew by a Tick, no longer known after a Delay and where timers are set, and kept
@@ -90,15 +92,15 @@ pub record Called (after c : Reporting) (k : records.Call) : Type 0 where
   pub answers : Answers after c (records.call k)
   pub quiet' : after.quiet.0 ≡ quiet_after k c.quiet.0 after.machine
 
--- What a call that sets timers found: the rule that it breaks, 0 if there is none; then the timers as the model sets them, and its Late.
-pub record Setting (c : Reporting) (k : records.TimerCall) (timers : Timers) (made : Made) (rule : ℕ) : Type 0 where
+-- What a call that sets timers found: the rule that it breaks, if any; then the timers as the model sets them, and its Late.
+pub record Setting (c : Reporting) (k : records.TimerCall) (timers : Timers) (made : Made) (rule : Result Unit Rule) : Type 0 where
   pub sets : Calls c (records.Timing k)
-  pub rule' : rule ≡ rule_number (broken (plan_of c.machine) (idle c.machine) (records.call (records.Timing k)))
-  pub timers' : timing.view timers ≡ cond (eqb rule 0) (set_timer k c.machine.tick.0 (timing.view c.machine.timers)) (timing.view c.machine.timers)
-  pub made' : Tells made (cond (eqb rule 0) (late_due k c.machine.tick.0 (timing.view c.machine.timers)) [])
+  pub rule' : answer_number rule ≡ rule_number (broken (plan_of c.machine) (idle c.machine) (records.call (records.Timing k)))
+  pub timers' : timing.view timers ≡ cond (is_ok rule) (set_timer k c.machine.tick.0 (timing.view c.machine.timers)) (timing.view c.machine.timers)
+  pub made' : Tells made (cond (is_ok rule) (late_due k c.machine.tick.0 (timing.view c.machine.timers)) [])
 
 -- and what it then answers
-abbrev pub Timed : (r c : Reporting) → Timers → Made → (rule : ℕ) → Type 0
+abbrev pub Timed : (r c : Reporting) → Timers → Made → (rule : Result Unit Rule) → Type 0
 Timed r c timers made rule = (k : records.TimerCall) → Setting c k timers made rule → Called r c (records.Timing k)
 
 -- 31: a record of this kind stands where the arming has come to
@@ -111,12 +113,12 @@ pub record Hearing (c : Reporting) (kind : ℕ) : Type 0 where
   pub due' : T (in_place c.machine kind) → c.given < c.due
 
 -- another rule, and nothing else changed
-abbrev pub barred : Reporting → (rule : ℕ) → Reporting
+abbrev pub barred : Reporting → (rule : Result Unit Rule) → Reporting
 barred c rule = record { machine = c.machine; reports = c.reports; count = c.count; due = c.due; given = c.given; chosen = c.chosen; quiet = c.quiet; rule = rule }
 
 -- 28: a report where none is due
 abbrev pub unasked : Reporting → Reporting
-unasked c = barred c 28
+unasked c = barred c (Err NoneDue)
 
 -- one more report is given, and this thread is the one reported
 abbrev pub told : Reporting → (reported : ℕ) → Reporting
@@ -130,14 +132,14 @@ told c x =
       given = c.given + 1;
       chosen = c.chosen;
       quiet = c.quiet;
-      rule = 0;
+      rule = Ok tt;
     }
 
 -- a record that is heard, by its kind and operand: the first due is given, a Switch given names the thread reported, or a rule is broken
 pub record Hears (r c : Reporting) (kind operand : ℕ) : Type 0 where
-  pub rule' : r.rule ≡ cond (in_place c.machine kind) (due_rule (report_at c c.given) kind operand) 31
-  pub given' : r.rule ≡ 0 → r ≡ told c (cond (eqb kind 17) (operand % 256) c.machine.reported)
-  pub barred' : (r.rule ≡ 0 → ⊥) → r ≡ barred c r.rule
+  pub rule' : answer_number r.rule ≡ cond (in_place c.machine kind) (due_rule (report_at c c.given) kind operand) 31
+  pub given' : is_ok r.rule ≡ true → r ≡ told c (cond (eqb kind 17) (operand % 256) c.machine.reported)
+  pub barred' : is_ok r.rule ≡ false → r ≡ barred c r.rule
 
 -- as it is lent
 pub record Closes (r : State) (c : Reporting) : Type 0 where

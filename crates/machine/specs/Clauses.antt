@@ -1,5 +1,5 @@
 -- What the machine's functions other than the calls ask and answer.
-use Rattle.std.specs.Prelude.{◌≡◌, Bool, cond, not, ◌&&◌, ℕ, ◌+◌, min, ◌≤◌, ◌<◌, T, eqb, leb, ltb, length}
+use Rattle.std.specs.Prelude.{◌≡◌, Result, Ok, is_ok, Bool, cond, not, ◌&&◌, ℕ, ◌+◌, min, ◌≤◌, ◌<◌, T, eqb, leb, ltb, length}
 use mathlib.Core.List.{List, [], ◌∷◌, ◌++◌, map, tail, Memᴰ as Mem}
 use Rattle.model.specs.Searches.{filter, up_to}
 use Rattle.model.specs.Plan as plan
@@ -19,7 +19,10 @@ use Rattle.clock.specs.View as timing
 use Rattle.clock.specs.View.{number_at}
 use Rattle.clock.specs.Clauses.{soonest as soonest_expiry}
 use Rattle.machine.specs.declared.Machine.{Machine}
+use Rattle.machine.specs.declared.rules.Rule.{Rule}
 use Rattle.machine.specs.declared.slots.Slots.{Slots}
+use Rattle.machine.specs.declared.slots.Condition.{Condition}
+use Rattle.machine.specs.declared.slots.Condition.TheVariants.{Dormant, Ready, Asleep, Waits}
 use Rattle.machine.specs.declared.sleepers.Woken.{Woken}
 use Rattle.due.specs.declared.reports.Report.{Report}
 use Rattle.due.specs.declared.reports.Reports.{Reports}
@@ -28,6 +31,13 @@ use Rattle.machine.specs.declared.state.State.{State}
 use Rattle.due.specs.Lists.{report_of, IsReport}
 use Rattle.machine.specs.View.{plan_of, idle, view}
 use Rattle.machine.specs.Kept.{kept}
+
+-- the number of a condition: see View, condition_of
+abbrev pub state_of : Condition → ℕ
+state_of Dormant = 0
+state_of Ready = 1
+state_of Asleep = 2
+state_of Waits = 3
 
 -- a thread comes into another condition, or waits for a section
 
@@ -117,17 +127,17 @@ pub record Delivers (r s : State) (given : Report) : Type 0 where
 
 -- a state to be moved on from: all its reports stand in the array, so that no Switch to a chosen thread stands apart
 abbrev pub opened : State → Reporting
-opened s = record { machine = s.machine; reports = s.due.items; count = s.due.count; due = s.due.count; given = s.given; chosen = 255; quiet = record { 0 = 0 }; rule = 0 }
+opened s = record { machine = s.machine; reports = s.due.items; count = s.due.count; due = s.due.count; given = s.given; chosen = 255; quiet = record { 0 = 0 }; rule = Ok tt }
 
 -- A machine with these reports due, and a Switch behind them where the chosen thread is not the one reported. Where a rule is broken there is
 -- none.
-abbrev pub owing : Machine → Reports → (rule chosen : ℕ) → Tick → Reporting
+abbrev pub owing : Machine → Reports → (rule : Result Unit Rule) → (chosen : ℕ) → Tick → Reporting
 owing m rs rule x quiet =
     record {
       machine = m;
       reports = rs.items;
       count = rs.count;
-      due = cond (eqb rule 0 && not (eqb x m.reported)) (rs.count + 1) rs.count;
+      due = cond (is_ok rule && not (eqb x m.reported)) (rs.count + 1) rs.count;
       given = 0;
       chosen = x;
       quiet = quiet;

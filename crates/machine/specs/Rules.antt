@@ -1,5 +1,5 @@
 -- The rules as the code asks them: from the parts that each reads, as a number, 0 where the answer is Yes.
-use Rattle.std.specs.Prelude.{cond, List, ℕ, eqb, ltb}
+use Rattle.std.specs.Prelude.{cond, List, ℕ, eqb, ltb, Result, Ok, Err}
 use Rattle.std.proofs.Math.Option.{Option, none, some}
 use Rattle.model.specs.Timers.{slot, is_armed}
 use Rattle.model.specs.Rules.{holds_none, holds_not, last_taken}
@@ -11,11 +11,33 @@ use Rattle.clock.specs.declared.timers.Timers.{Timers}
 use Rattle.clock.specs.View.{view}
 use Rattle.due.specs.declared.reports.Report.{Report}
 use Rattle.machine.specs.declared.slots.Slots.{Slots}
+use Rattle.machine.specs.declared.rules.Rule.{Rule}
+use Rattle.machine.specs.declared.rules.Rule.TheVariants.{ReportDue, NobodyRuns, NotDormant, HoldsSection, NotNeeded, HeldAlready, NotTakenLast, NoneDue, OtherKind, OtherOperand, ArmingOrder, NotArmed}
 
 -- a rule as a number: 0 if none is broken
 abbrev pub rule_number : Option ℕ → ℕ
 rule_number none = 0
 rule_number (some n) = n
+
+-- the number of each rule
+abbrev pub number_of : Rule → ℕ
+number_of ReportDue = 21
+number_of NobodyRuns = 22
+number_of NotDormant = 23
+number_of HoldsSection = 24
+number_of NotNeeded = 25
+number_of HeldAlready = 26
+number_of NotTakenLast = 27
+number_of NoneDue = 28
+number_of OtherKind = 29
+number_of OtherOperand = 30
+number_of ArmingOrder = 31
+number_of NotArmed = 32
+
+-- the number of the rule that an answer names, 0 where it names none
+abbrev pub answer_number : Result Unit Rule → ℕ
+answer_number (Ok u) = 0
+answer_number (Err r) = number_of r
 
 abbrev pub run_rule : (chosen : ℕ) → ℕ
 run_rule x = cond (eqb x 255) 22 0

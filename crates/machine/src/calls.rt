@@ -7,8 +7,10 @@ use crate::quiet::next_event;
 use crate::reporting::Reporting;
 use crate::rules;
 use crate::sleepers::wake;
+use crate::slots::Condition;
 use clock::time::{Tick, Wait};
 use due::made::Made;
+use due::reports::Kind;
 use lists::choice;
 use plan::lookup::base;
 
@@ -21,16 +23,14 @@ impl Reporting {
         let mut m = self.machine;
         let mut made = Made::none();
         let rule = rules::create_rule(m.slots, thread);
-        if rule == 0 {
-            let slots = m.slots.placed(thread, 1);
+        if rule.is_ok() {
+            let slots = m.slots.placed(thread, Condition::Ready);
             m.slots = slots;
             let queue = m.queue.push(thread);
             m.queue = queue;
-            made = Made::one(16, thread);
+            made = Made::one(Kind::Ready, thread);
         }
-        let c = self.making(made);
-        let who = m.chosen();
-        c.owing(m, rule, who, self.quiet)
+        self.settled(m, made, rule, self.quiet)
     }
 
     // Tick: see model, Calls.tick. It walks over the sleepers in the order of their Delays; what happens next is asked anew. The reports still due but a
@@ -63,7 +63,7 @@ impl Reporting {
         m.delays = delays;
         m.timers = later;
         let who = m.chosen();
-        self.telling(rs).owing(m, 0, who, quiet)
+        self.telling(rs).owing(m, Ok(()), who, quiet)
     }
 
     // Delay: see model, Calls.delay. What happens next is no longer known.
@@ -74,10 +74,10 @@ impl Reporting {
         let mut m = self.machine;
         let caller = m.reported;
         let rule = rules::free_rule(m.holds, caller);
-        if rule == 0 {
+        if rule.is_ok() {
             let over = m.tick.plus(wait);
             let until = over.next();
-            let slots = m.slots.placed(caller, 2);
+            let slots = m.slots.placed(caller, Condition::Asleep);
             m.slots = slots;
             let mut wakes = m.wakes;
             wakes[caller as usize] = until;
@@ -87,9 +87,7 @@ impl Reporting {
             let delays = m.delays.push(caller);
             m.delays = delays;
         }
-        let c = self.making(Made::none());
-        let who = m.chosen();
-        c.owing(m, rule, who, Tick(0))
+        self.settled(m, Made::none(), rule, Tick(0))
     }
 
     // Relinquish: see model, Calls.relinquish.
@@ -101,18 +99,16 @@ impl Reporting {
         let mut made = Made::none();
         let caller = m.reported;
         let rule = rules::run_rule(caller);
-        if rule == 0 {
+        if rule.is_ok() {
             let bases = m.plan.bases;
             if choice::rivalled_of(bases, m.queue, m.holds.top.owner, m.waits, caller) {
                 let others = m.queue.without(caller);
                 let queue = others.push(caller);
                 m.queue = queue;
-                made = Made::one(20, caller);
+                made = Made::one(Kind::Yield, caller);
             }
         }
-        let c = self.making(made);
-        let who = m.chosen();
-        c.owing(m, rule, who, self.quiet)
+        self.settled(m, made, rule, self.quiet)
     }
 
     // End: see model, Calls.end.
@@ -123,15 +119,13 @@ impl Reporting {
         let mut m = self.machine;
         let caller = m.reported;
         let rule = rules::free_rule(m.holds, caller);
-        if rule == 0 {
-            let slots = m.slots.placed(caller, 0);
+        if rule.is_ok() {
+            let slots = m.slots.placed(caller, Condition::Dormant);
             m.slots = slots;
             let queue = m.queue.without(caller);
             m.queue = queue;
         }
-        let c = self.making(Made::none());
-        let who = m.chosen();
-        c.owing(m, rule, who, self.quiet)
+        self.settled(m, Made::none(), rule, self.quiet)
     }
 
     // Take: see model, Calls.take.
@@ -145,13 +139,13 @@ impl Reporting {
         let bases = m.plan.bases;
         let needs = m.plan.needs;
         let rule = rules::take_rule(m.plan.threads, needs, m.holds, caller, section);
-        if rule == 0 {
+        if rule.is_ok() {
             let b = base(m.plan.threads, bases, caller);
             if m.holds.clear(ceilings, caller, b) {
                 let ceiling = ceilings[section as usize];
                 let holds = m.holds.push(section, caller, ceiling);
                 m.holds = holds;
-                made = Made::one(18, caller);
+                made = Made::one(Kind::Won, caller);
             } else {
                 let queue = m.queue.without(caller);
                 m.queue = queue;
@@ -159,12 +153,10 @@ impl Reporting {
                 m.slots = slots;
                 let waits = m.waits.push(caller);
                 m.waits = waits;
-                made = Made::one(19, caller);
+                made = Made::one(Kind::Lost, caller);
             }
         }
-        let c = self.making(made);
-        let who = m.chosen();
-        c.owing(m, rule, who, self.quiet)
+        self.settled(m, made, rule, self.quiet)
     }
 
     // Give: see model, Calls.give.
@@ -177,7 +169,7 @@ impl Reporting {
         let caller = m.reported;
         let bases = m.plan.bases;
         let rule = rules::give_rule(m.holds, caller, section);
-        if rule == 0 {
+        if rule.is_ok() {
             let mut holds = m.holds.without(ceilings, section, caller);
             let heir = choice::find_heir(bases, ceilings, m.waits, holds);
             let t = heir.who;
@@ -187,18 +179,16 @@ impl Reporting {
                 holds = holds.push(wanted, t, ceiling);
                 let waits = m.waits.without(t);
                 m.waits = waits;
-                let slots = m.slots.placed(t, 1);
+                let slots = m.slots.placed(t, Condition::Ready);
                 m.slots = slots;
                 let queue = m.queue.push(t);
                 m.queue = queue;
                 made = Made::won(t);
             } else if t != 255 {
-                made = Made::one(19, t);
+                made = Made::one(Kind::Lost, t);
             }
             m.holds = holds;
         }
-        let c = self.making(made);
-        let who = m.chosen();
-        c.owing(m, rule, who, self.quiet)
+        self.settled(m, made, rule, self.quiet)
     }
 }

@@ -7,7 +7,7 @@ ghost use Rattle.machine.specs.View.{report_at};
 ghost use Rattle.machine.specs.Calls.{in_place, Hearing, Hears, unasked};
 
 use crate::reporting::Reporting;
-use crate::rules::due_rule;
+use crate::rules::{Rule, due_rule};
 use due::reports::Report;
 
 impl Reporting {
@@ -35,18 +35,21 @@ impl Reporting {
 
     // Such a record, by its kind and operand: outside its place it breaks 31; a call breaks 21, and a report is the first due or breaks 29 or 30. A
     // Switch given names the thread reported.
+    // Out of line the machine is copied in and out for each record that is heard.
+    #[inline(always)]
     pub fn heard(self, kind: u8, operand: u16) -> Reporting
         requires { Hearing self kind }
         ensures { Hears result self kind operand }
     {
         let mut c = self;
         let given = self.given;
-        let mut rule: u8 = 31;
+        let mut rule = Err(Rule::ArmingOrder);
         if self.machine.timers.in_order(kind) {
             let first = self.first();
             rule = due_rule(first, kind, operand);
         }
-        if rule == 0 {
+        // An early return where a rule is broken would copy the machine.
+        if let Ok(()) = rule {
             c.given = given + 1;
             if kind == 17 {
                 let who = (operand % 256) as u8;
@@ -62,7 +65,7 @@ impl Reporting {
         ensures { result ≡ unasked self }
     {
         let mut c = self;
-        c.rule = 28;
+        c.rule = Err(Rule::NoneDue);
         c
     }
 }

@@ -3,7 +3,7 @@
 
 pub mod slots; // slots.rt: the conditions of the threads
 pub mod sleepers; // sleepers.rt: who wakes, and when the next one does
-mod rules; // rules.rt: the questions asked of a record
+pub mod rules; // rules.rt: the rules, and the questions asked of a record
 pub mod record; // record.rt: a call with its operand, or a report
 pub mod reporting; // reporting.rt: a machine with its reports
 pub mod calls; // calls.rt: what each call does

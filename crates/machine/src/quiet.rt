@@ -16,15 +16,11 @@ pub(crate) fn next_event(delays: Queue, wakes: [Tick; 16], timers: Timers) -> Ti
     requires { delays.count ≤ 16 }
     ensures { result.0 ≡ next_event delays wakes timers }
 {
-    let mut first = Tick(0);
     if timers.is_complete() {
-        first = soonest(delays, wakes);
-        let next = timers.soonest();
-        if next.0 < first.0 {
-            first = next;
-        }
+        soonest(delays, wakes).min(timers.soonest())
+    } else {
+        Tick(0)
     }
-    first
 }
 
 impl Reporting {
@@ -35,8 +31,7 @@ impl Reporting {
     {
         let now = self.machine.tick;
         let number = now.next();
-        let until = self.quiet;
-        self.due <= self.given && number.0 < until.0
+        self.due <= self.given && number < self.quiet
     }
 
     // The tick number grows, and nothing else changes.
@@ -72,6 +67,6 @@ impl State {
         }
         let wakes = self.machine.wakes;
         let first = soonest(self.machine.delays, wakes);
-        number.0 < first.0
+        number < first
     }
 }

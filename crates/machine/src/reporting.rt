@@ -8,6 +8,7 @@ ghost use Rattle.machine.specs.View.{plan_of, idle, reports_in};
 ghost use Rattle.machine.specs.Clauses.{Starts, Chooses, owing};
 
 use crate::Machine;
+use crate::rules::Rule;
 use crate::slots::Slots;
 use clock::time::Tick;
 use clock::timers::Timers;
@@ -20,7 +21,7 @@ use plan::Plan;
 
 // `count` reports stand in the array; `due` is how many were due after the latest call, one more where a Switch is among them, to the thread `chosen`
 // after it. The first `given` are given.
-// Nothing happens before the tick number `quiet`. `rule` is the one that the latest record broke, 0 if there is none.
+// Nothing happens before the tick number `quiet`. `rule` is the one that the latest record broke, if any.
 #[derive(Clone, Copy)]
 pub struct Reporting {
     pub machine: Machine,
@@ -30,7 +31,7 @@ pub struct Reporting {
     pub given: usize,
     pub chosen: u8,
     pub quiet: Tick,
-    pub rule: u8,
+    pub rule: Result<(), Rule>,
 }
 
 impl Machine {
@@ -68,7 +69,8 @@ impl Machine {
 impl Reporting {
     // With the reports of a call other than Tick. They are stored whatever they are: a store that depends on a test copies the array.
     pub(crate) fn making(self, made: Made) -> Reporting
-        ensures { Stores (reports_in result) made }
+        ensures stored { Stores (reports_in result) made }
+        ensures count { result.count ≡ made.count }
     {
         let mut c = self;
         let first = made.first;
@@ -101,16 +103,41 @@ impl Reporting {
         c
     }
 
+    // What a call other than Tick hands back: its reports, and behind them a Switch where it lets another thread run than the one reported.
+    // Out of line the machine is copied in and out for each call.
+    #[inline(always)]
+    pub(crate) fn settled(
+        self,
+        machine: Machine,
+        made: Made,
+        rule: Result<(), Rule>,
+        quiet: Tick,
+    ) -> Reporting
+        requires { Chooses machine × (made.count < report_room) }
+        ensures stored { Stores (reports_in result) made }
+        ensures owed { result ≡ owing machine (reports_in result) rule (numbered (chosen (plan_of machine) (idle machine))) quiet }
+    {
+        let c = self.making(made);
+        let who = machine.chosen();
+        c.owing(machine, rule, who, quiet)
+    }
+
     // What a call hands back: its reports, and behind them a Switch where the chosen thread is not the one reported. A broken rule makes
     // none due.
-    pub(crate) fn owing(self, machine: Machine, rule: u8, chosen: u8, quiet: Tick) -> Reporting
+    pub(crate) fn owing(
+        self,
+        machine: Machine,
+        rule: Result<(), Rule>,
+        chosen: u8,
+        quiet: Tick,
+    ) -> Reporting
         requires { self.count < report_room }
         ensures { result ≡ owing machine (reports_in self) rule chosen quiet }
     {
         let mut c = self;
         let count = self.count;
         let mut due = count;
-        if rule == 0 && chosen != machine.reported {
+        if rule.is_ok() && chosen != machine.reported {
             due = count + 1;
         }
         c.machine = machine;

@@ -1,7 +1,7 @@
-// The questions asked of a record: the number of the first No, 0 if there is none.
+// The rules, and the questions asked of a record: the rule of the first No.
 ghost use Rattle.std.specs.Prelude.{◌≡◌, ◌≤◌, ◌<◌};
 ghost use Rattle.model.specs.Records.{timer_count};
-ghost use Rattle.machine.specs.Rules.{create_rule, free_rule, take_rule, give_rule, run_rule, cancel_rule, due_rule};
+ghost use Rattle.machine.specs.Rules.{number_of, answer_number, create_rule, free_rule, take_rule, give_rule, run_rule, cancel_rule, due_rule};
 
 use crate::slots::Slots;
 use clock::timers::Timers;
@@ -9,30 +9,78 @@ use due::reports::Report;
 use lists::holds::Holds;
 use plan::lookup::may_take;
 
-// 22: does a thread run?
-pub(crate) fn run_rule(chosen: u8) -> u8
-    ensures { result ≡ run_rule chosen }
+// What a record breaks, each with its number. The check asks 31 first of every record.
+#[derive(Clone, Copy, PartialEq, Eq, Debug)]
+pub enum Rule {
+    // A call other than Tick while reports are due.
+    ReportDue = 21,
+    // A call of a thread while nobody runs.
+    NobodyRuns = 22,
+    // A Create of a thread that is not dormant.
+    NotDormant = 23,
+    // A Delay or End of a thread that holds a section.
+    HoldsSection = 24,
+    // A Take of a section that the caller does not need.
+    NotNeeded = 25,
+    // A Take of a section that the caller holds.
+    HeldAlready = 26,
+    // A Give of another section than the one the caller took last.
+    NotTakenLast = 27,
+    // A report while none is due.
+    NoneDue = 28,
+    // A report of another kind than the first due.
+    OtherKind = 29,
+    // A report with another operand than the first due.
+    OtherOperand = 30,
+    // Within an arming, anything but its next call; elsewhere, a Start or Period.
+    ArmingOrder = 31,
+    // A Cancel of a timer that is not armed.
+    NotArmed = 32,
+}
+
+impl Rule {
+    // Its number.
+    pub fn number(self) -> u8
+        ensures { result ≡ number_of self }
+    {
+        self as u8
+    }
+}
+
+// 22: does a thread run? Here and below `chosen` is a number of the lent state, 255 for nobody.
+pub(crate) fn run_rule(chosen: u8) -> Result<(), Rule>
+    ensures { answer_number result ≡ run_rule chosen }
 {
-    if chosen == 255 { 22 } else { 0 }
+    if chosen == 255 {
+        Err(Rule::NobodyRuns)
+    } else {
+        Ok(())
+    }
 }
 
 // 22, and 24: does the caller hold no section?
-pub(crate) fn free_rule(holds: Holds, chosen: u8) -> u8
+pub(crate) fn free_rule(holds: Holds, chosen: u8) -> Result<(), Rule>
     requires { holds.count ≤ 16 }
-    ensures { result ≡ free_rule holds chosen }
+    ensures { answer_number result ≡ free_rule holds chosen }
 {
-    if chosen == 255 {
-        return 22;
+    run_rule(chosen)?;
+    if holds.free(chosen) {
+        Ok(())
+    } else {
+        Err(Rule::HoldsSection)
     }
-    if holds.free(chosen) { 0 } else { 24 }
 }
 
 // 23: is the thread dormant?
-pub(crate) fn create_rule(slots: Slots, thread: u8) -> u8
+pub(crate) fn create_rule(slots: Slots, thread: u8) -> Result<(), Rule>
     requires { thread < 16 }
-    ensures { result ≡ create_rule slots thread }
+    ensures { answer_number result ≡ create_rule slots thread }
 {
-    if slots.is_dormant(thread) { 0 } else { 23 }
+    if slots.is_dormant(thread) {
+        Ok(())
+    } else {
+        Err(Rule::NotDormant)
+    }
 }
 
 // 22, 25 and 26: does the caller need the section, and not hold it?
@@ -42,55 +90,61 @@ pub(crate) fn take_rule(
     holds: Holds,
     chosen: u8,
     section: u8,
-) -> u8
+) -> Result<(), Rule>
     requires { (threads ≤ 16) × (holds.count ≤ 16) × (section < 16) }
-    ensures { result ≡ take_rule threads needs holds chosen section }
+    ensures { answer_number result ≡ take_rule threads needs holds chosen section }
 {
-    if chosen == 255 {
-        return 22;
-    }
+    run_rule(chosen)?;
     if !may_take(threads, needs, chosen, section) {
-        return 25;
+        return Err(Rule::NotNeeded);
     }
-    if holds.lacks(section, chosen) { 0 } else { 26 }
+    if holds.lacks(section, chosen) {
+        Ok(())
+    } else {
+        Err(Rule::HeldAlready)
+    }
 }
 
 // 22, and 27: is it the section that the caller took last?
-pub(crate) fn give_rule(holds: Holds, chosen: u8, section: u8) -> u8
+pub(crate) fn give_rule(holds: Holds, chosen: u8, section: u8) -> Result<(), Rule>
     requires { holds.count ≤ 16 }
-    ensures { result ≡ give_rule holds chosen section }
+    ensures { answer_number result ≡ give_rule holds chosen section }
 {
-    if chosen == 255 {
-        return 22;
-    }
+    run_rule(chosen)?;
     if holds.last_taken(chosen) == section {
-        0
+        Ok(())
     } else {
-        27
+        Err(Rule::NotTakenLast)
     }
 }
 
 // 22, and 32: is the timer armed?
-pub(crate) fn cancel_rule(timers: Timers, chosen: u8, timer: u8) -> u8
+pub(crate) fn cancel_rule(timers: Timers, chosen: u8, timer: u8) -> Result<(), Rule>
     requires { timer < timer_count }
-    ensures { result ≡ cancel_rule timers chosen timer }
+    ensures { answer_number result ≡ cancel_rule timers chosen timer }
 {
-    if chosen == 255 {
-        return 22;
+    run_rule(chosen)?;
+    if timers.is_armed(timer) {
+        Ok(())
+    } else {
+        Err(Rule::NotArmed)
     }
-    if timers.is_armed(timer) { 0 } else { 32 }
 }
 
 // Where this report is due first: 21 of a call, and of a report 29 and 30: is the first due of this kind, and does it name this thread? Whole operands
 // are compared.
-pub(crate) fn due_rule(first: Report, kind: u8, operand: u16) -> u8
-    ensures { result ≡ due_rule first kind operand }
+pub(crate) fn due_rule(first: Report, kind: u8, operand: u16) -> Result<(), Rule>
+    ensures { answer_number result ≡ due_rule first kind operand }
 {
     if kind < 16 {
-        return 21;
+        return Err(Rule::ReportDue);
     }
     if first.kind != kind {
-        return 29;
+        return Err(Rule::OtherKind);
     }
-    if first.operand == operand { 0 } else { 30 }
+    if first.operand == operand {
+        Ok(())
+    } else {
+        Err(Rule::OtherOperand)
+    }
 }

@@ -3,7 +3,7 @@ ghost use Rattle.std.specs.Prelude.{◌≡◌, ◌+◌, ◌≤◌};
 ghost use Rattle.lists.specs.Lists.{queued};
 ghost use Rattle.machine.specs.Clauses.{Wakes, soonest};
 
-use crate::slots::Slots;
+use crate::slots::{Condition, Slots};
 use clock::time::{LAST_WAKE, Tick};
 use lists::queue::Queue;
 
@@ -27,19 +27,13 @@ pub(crate) fn wake(
     requires { queue.count + delays.count ≤ 16 }
     ensures { Wakes result delays wakes number.0 slots queue }
 {
-    let mut rest = delays.items;
-    let mut left = delays.count;
     let mut states = slots;
     let mut line = queue;
     let mut asleep = Queue::none();
     let mut woken = Queue::none();
-    while 0 < left {
-        let t = (rest % 16) as u8;
-        rest = rest / 16;
-        left -= 1;
-        let until = wakes[t as usize];
-        if until.0 == number.0 {
-            states = states.placed(t, 1);
+    for t in delays.iter() {
+        if wakes[t as usize] == number {
+            states = states.placed(t, Condition::Ready);
             line = line.push(t);
             woken = woken.push(t);
         } else {
@@ -60,16 +54,8 @@ pub(crate) fn soonest(delays: Queue, wakes: [Tick; 16]) -> Tick
     ensures { result.0 ≡ soonest wakes (queued delays) }
 {
     let mut first = LAST_WAKE;
-    let mut rest = delays.items;
-    let mut left = delays.count;
-    while 0 < left {
-        let t = (rest % 16) as usize;
-        rest = rest / 16;
-        left -= 1;
-        let wake = wakes[t];
-        if wake.0 < first.0 {
-            first = wake;
-        }
+    for t in delays.iter() {
+        first = first.min(wakes[t as usize]);
     }
     first
 }

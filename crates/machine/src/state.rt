@@ -36,10 +36,7 @@ impl State {
     pub fn due_count(self) -> usize
         ensures { result ≡ length (view self).due }
     {
-        let due = self.due;
-        let n = due.count;
-        let at = self.given;
-        if at < n { n - at } else { 0 }
+        self.due.count.saturating_sub(self.given)
     }
 
     // Whether no arming is in progress.
@@ -92,13 +89,15 @@ impl State {
             given: self.given,
             chosen: 255,
             quiet: Tick(0),
-            rule: 0,
+            rule: Ok(()),
         }
     }
 }
 
 impl Reporting {
     // As it is lent: a Switch that is due stands in the array behind the other reports.
+    // Out of line the machine is copied once more where a walk ends.
+    #[inline(always)]
     pub fn closed(self) -> State
         requires { Apart self }
         ensures { Closes result self }

@@ -6,6 +6,7 @@ ghost use Rattle.machine.specs.Calls.{Calls, Called, Timed};
 
 use crate::reporting::Reporting;
 use crate::rules;
+use crate::rules::Rule;
 use clock::time::Tick;
 use clock::timers::Timers;
 use due::made::Made;
@@ -18,17 +19,17 @@ impl Reporting {
     {
         let t = self.machine.timers;
         let rule = rules::run_rule(self.machine.reported);
-        self.timed(t.begun(rule == 0, timer), Made::none(), rule)
+        self.timed(t.begun(rule.is_ok(), timer), Made::none(), rule)
     }
 
-    // Start.
+    // Start: as Arm but for the timers, of which each call has a definition of its own.
     pub fn start(self, number: u16) -> Reporting
         requires { Calls self (records.Timing (records.Start number)) }
         ensures { Called result self (records.Timing (records.Start number)) }
     {
         let t = self.machine.timers;
         let rule = rules::run_rule(self.machine.reported);
-        self.timed(t.started(rule == 0, number), Made::none(), rule)
+        self.timed(t.started(rule.is_ok(), number), Made::none(), rule)
     }
 
     // Period: Late is due, with the count of expiries lost.
@@ -40,10 +41,10 @@ impl Reporting {
         let now = self.machine.tick;
         let rule = rules::run_rule(self.machine.reported);
         let mut made = Made::none();
-        if rule == 0 {
+        if rule.is_ok() {
             made = Made::late(t.lost(now, ticks));
         }
-        self.timed(t.armed(rule == 0, now, ticks), made, rule)
+        self.timed(t.armed(rule.is_ok(), now, ticks), made, rule)
     }
 
     // Cancel.
@@ -53,11 +54,11 @@ impl Reporting {
     {
         let t = self.machine.timers;
         let rule = rules::cancel_rule(t, self.machine.reported, timer);
-        self.timed(t.cancelled(rule == 0, timer), Made::none(), rule)
+        self.timed(t.cancelled(rule.is_ok(), timer), Made::none(), rule)
     }
 
-    // With these timers and reports, and the rule that is broken, 0 if there is none.
-    fn timed(self, timers: Timers, made: Made, rule: u8) -> Reporting
+    // With these timers and reports, and the rule that is broken, if any.
+    fn timed(self, timers: Timers, made: Made, rule: Result<(), Rule>) -> Reporting
         requires { made.count ≤ 2 }
         ensures { Timed result self timers made rule }
     {

@@ -1,14 +1,14 @@
 -- The whole check of plan and dump that no question refuses: what its walk asks, and what `check` of the specs is where the walk ends.
 use mathlib.Core.Path.{◌≡◌, refl, ap, sym, subst, ◌∙◌}
-use mathlib.Core.Logic.{inl, ◌≢◌}
-use mathlib.Core.Bool.{false, cond}
+use mathlib.Core.Logic.{inl}
+use mathlib.Core.Bool.{true, false, cond}
 use mathlib.Core.List.{List, map}
 use mathlib.Core.Option.{none}
 use Prim.Native.Nat.{ℕ, ◌≤◌}
 use native.Mathlib.Omega.{arith}
-use borrow.Author.Tests.{eq-eqb, ne_eqb}
-use lib.Dec.{T, eqb}
+use lib.Dec.{T}
 use lib.ListN.{length}
+use Rattle.std.specs.Prelude.{is_ok}
 use Rattle.model.specs.Searches.{up_to}
 use Rattle.model.specs.Plan as model
 use Rattle.model.specs.State as state
@@ -21,6 +21,7 @@ use Rattle.plan.specs.declared.Plan.{Plan}
 use Rattle.plan.proofs.Laws.{refusal_none_valid}
 use Rattle.machine.specs.declared.state.State.{State}
 use Rattle.machine.specs.View.{plan_of, view}
+use Rattle.machine.specs.Rules.{answer_number}
 use Rattle.machine.specs.Clauses.{Fresh}
 use Rattle.machine.proofs.Laws.{ceilings_of}
 use Rattle.dump.specs.Layout.{record_count, kind_at, operand_at, decode, part}
@@ -72,18 +73,18 @@ module _ {plan dump : List ℕ} {p : Plan} (u : Unrefused plan dump p) where
         }
 
     module _ {w : Walked} {n : ℕ} (to : n ≡ record_count dump) (z : WalkEnds w s dump 0 n) where
-      ended : cond (eqb w.rule 0) (clean w.at (length (view w.state).due)) (breach w.at w.rule) ≡ judge (bytes.plan_of plan) (decode dump)
+      ended : cond (is_ok w.rule) (clean w.at (length (view w.state).due)) (breach w.at (answer_number w.rule)) ≡ judge (bytes.plan_of plan) (decode dump)
       ended =
           z.verdict ∙ ap (λ l. run (plan_of s.machine) 0 l (view s)) (ap (part dump 0) to ∙ part_all dump) ∙ ap (run (plan_of s.machine) 0 (decode dump)) begins
           ∙ sym (judge_run (plan_of s.machine) (decode dump)) ∙ ap (λ (q : model.Plan). judge q (decode dump)) same_plan
 
       -- the walk ends at a record that breaks a rule
-      pub check_breach : w.rule ≢ 0 → judged (breach w.at w.rule) ≡ check plan dump
-      check_breach d = ap judged (rw (ne_eqb w.rule 0 d) at ended) ∙ sym judges
+      pub check_breach : is_ok w.rule ≡ false → judged (breach w.at (answer_number w.rule)) ≡ check plan dump
+      check_breach d = ap judged (rw d at ended) ∙ sym judges
 
       -- the walk ends behind the last record
-      pub check_clean : {d : ℕ} → w.rule ≡ 0 → d ≡ length (view w.state).due → judged (clean n d) ≡ check plan dump
+      pub check_clean : {d : ℕ} → is_ok w.rule ≡ true → d ≡ length (view w.state).due → judged (clean n d) ≡ check plan dump
       check_clean k i =
-          let v : clean w.at (length (view w.state).due) ≡ judge (bytes.plan_of plan) (decode dump) = rw (eq-eqb w.rule 0 k) at ended in
+          let v : clean w.at (length (view w.state).due) ≡ judge (bytes.plan_of plan) (decode dump) = rw k at ended in
           let at : n ≡ w.at = to ∙ sym (decode-length dump) ∙ sym (clean_count (bytes.plan_of plan) (decode dump) w.at _ (sym v)).0 in
           rw (at, i) (ap judged v ∙ sym judges)

@@ -1,12 +1,15 @@
 -- What the whole check answers of a plan and a dump: document 01's `clean`, `breach` and `refused`, with their numbers.
-use Rattle.std.specs.Prelude.{false, List, ℕ}
+use Rattle.std.specs.Prelude.{false, List, ℕ, Result, Ok, Err}
 use Rattle.std.proofs.Math.Option.{Option, none, some}
 use Rattle.model.specs.Runs.{Verdict, clean, breach, judge}
+use Rattle.machine.specs.Rules.{number_of}
 use Rattle.plan.specs.Bytes as plans
 use Rattle.dump.specs.Layout.{decode}
 use Rattle.dump.specs.Questions as dumps
 use Rattle.monitor.specs.declared.check.Verdict as declared
-use Rattle.monitor.specs.declared.check.Verdict.TheVariants.{Refused, Clean, Breach}
+use Rattle.monitor.specs.declared.check.Verdict.TheVariants.{Clean, Breach}
+use Rattle.monitor.specs.declared.check.Refusal.{Refusal}
+use Rattle.monitor.specs.declared.check.Refusal.TheVariants.{Plan, Dump}
 
 -- refused with a number; or clean with records and due; or a breach with its record, from 0, and its rule
 pub data Answer : Type 0 where
@@ -29,8 +32,13 @@ answer (some n) v = refused n
 unfoldable pub check : (plan dump : List ℕ) → Answer
 check plan dump = answer (first_refusal plan dump) (judge (plans.plan_of plan) (decode dump))
 
--- the answer that a case of the code's enum stands for
-abbrev pub answer_of : declared.Verdict → Answer
-answer_of (Refused n) = refused n
-answer_of (Clean n d) = judged (clean n d)
-answer_of (Breach i r) = judged (breach i r)
+-- the number of the question that a refusal names
+abbrev pub question : Refusal → ℕ
+question (Plan r) = plans.question r
+question (Dump r) = dumps.question r
+
+-- the answer that the code's result stands for
+abbrev pub answer_of : Result declared.Verdict Refusal → Answer
+answer_of (Ok (Clean n d)) = judged (clean n d)
+answer_of (Ok (Breach i r)) = judged (breach i (number_of r))
+answer_of (Err r) = refused (question r)

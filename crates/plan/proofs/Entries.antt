@@ -1,14 +1,15 @@
 -- A struct's parts as parts of its plan: what the contracts over parts say of the whole, and when a loop has filled an array.
 use mathlib.Core.Path.{◌≡◌, refl, sym, ◌∙◌}
-use mathlib.Core.Bool.{◌&&◌}
-use mathlib.Core.List.{List, map}
+use mathlib.Core.Bool.{Bool, true, false, ◌&&◌}
+use mathlib.Core.List.{List, [], ◌∷◌, map}
 use Prim.Native.Nat.{ℕ, ◌≤◌, ◌<◌}
 use native.Mathlib.Omega.{arith}
 use lib.ListN.{length, get_or, take}
-use lib.Seq.{get_or-take, length-take-le, ext_get_or}
+use Rattle.std.specs.List.{fold}
+use lib.Seq.{get_or-take, length-take-le, take_all, ext_get_or}
 use Rattle.model.specs.Searches.{all, up_to}
 use Rattle.model.specs.Plan as model
-use Rattle.model.proofs.Loops.{Filled, full, listed, length-listed}
+use Rattle.model.proofs.Loops.{Filled, and_true, full, listed, length-listed}
 use Rattle.plan.specs.declared.Plan.{Plan}
 use Rattle.plan.specs.Bytes.{in_range, is_priority, needs_within}
 use Rattle.plan.specs.View.{in_use, view, base_in, may_take_in}
@@ -39,6 +40,16 @@ in_use_lem n items h =
     size : length (in_use n items) ≡ n
     size = length-listed entry n
 
+-- of an array that has as many as there are in use, all are
+pub in_use_all : (n : ℕ) (items : List ℕ) → length items ≡ n → in_use n items ≡ items
+in_use_all n items e = in_use_lem n items (omega arith) ∙ take_all n items (omega arith)
+
 -- so a loop that has stored an entry for each thread has made a list in use
 pub filled : (g : ℕ → ℕ) (n i : ℕ) (items : List ℕ) → i ≡ n → n ≤ length items → Filled g n i items → in_use n items ≡ map g (up_to n)
 filled g n i items e h inv = in_use_lem n items h ∙ (rw e at (full g n i items (omega arith) inv))
+
+-- whether all pass, asked of one after another without an early end
+pub all_folded : {A : Type 0} (f : A → Bool) (pass : Bool) (l : List A) → fold (λ p a. p && f a) pass l ≡ (pass && all f l)
+all_folded f pass [] = sym (and_true pass)
+all_folded f true (a ∷ l) = all_folded f (f a) l
+all_folded f false (a ∷ l) = all_folded f false l

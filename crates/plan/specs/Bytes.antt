@@ -1,10 +1,12 @@
 -- The plan's bytes, in the order of document 01, "The plan" and questions 1 to 4.
-use Rattle.std.specs.Prelude.{◌≡◌, Bool, ◌&&◌, List, [], ◌∷◌, map, ℕ, ◌+◌, ◌*◌, ◌^◌, ◌≤◌, min, eqb, leb, ltb, length}
+use Rattle.std.specs.Prelude.{◌≡◌, Bool, ◌&&◌, List, [], ◌∷◌, map, ℕ, ◌+◌, ◌*◌, ◌^◌, ◌≤◌, min, eqb, leb, ltb, length, Result, Ok, Err}
 use Rattle.std.proofs.Math.Option.{Option, none, some}
 use Rattle.model.specs.Searches.{all, up_to}
 use Rattle.model.specs.Plan.{Plan}
 use Rattle.model.specs.Rules.{Question, ◌asks◌, first_no}
 use Rattle.plan.specs.Words.{byte, word}
+use Rattle.plan.specs.declared.bytes.Refusal.{Refusal}
+use Rattle.plan.specs.declared.bytes.Refusal.TheVariants.{Counts, Length, Priorities, Needs}
 
 -- Byte 0 is T, the threads; byte 1 is S, the sections.
 abbrev pub thread_count : List ℕ → ℕ
@@ -68,6 +70,18 @@ questions bytes = 1 asks has_counts bytes ∷ 2 asks has_length bytes ∷ 3 asks
 -- The first No gives its number.
 unfoldable pub refusal : List ℕ → Option ℕ
 refusal bytes = first_no (questions bytes)
+
+-- the number of the question that a refusal names
+abbrev pub question : Refusal → ℕ
+question Counts = 1
+question Length = 2
+question Priorities = 3
+question Needs = 4
+
+-- what an answer refuses, by the number of the question
+abbrev pub refused : {A : Type 0} → Result A Refusal → Option ℕ
+refused (Ok a) = none
+refused (Err r) = some (question r)
 
 -- an answer as a number: 0 if every question has the answer Yes
 abbrev pub number : Option ℕ → ℕ

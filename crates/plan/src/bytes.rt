@@ -1,7 +1,7 @@
 // The plan's bytes: what refuses them, and the plan that they stand for.
-ghost use Rattle.std.specs.Prelude.{◌≡◌, ◌≤◌, ◌<◌, length};
+ghost use Rattle.std.specs.Prelude.{◌≡◌, ◌≤◌, ◌<◌, length, IfOk};
 ghost use Rattle.std.proofs.Math.Option.{none};
-ghost use Rattle.plan.specs.Bytes.{thread_count, plan_of, has_counts, has_length, has_priorities, has_needs, refusal, number, Whole};
+ghost use Rattle.plan.specs.Bytes.{thread_count, plan_of, has_counts, has_length, has_priorities, has_needs, refusal, question, refused, Whole};
 ghost use Rattle.plan.specs.View.{in_use, Made};
 ghost use Rattle.plan.specs.Words.{byte};
 
@@ -24,10 +24,8 @@ fn bases_of(bytes: &[u8]) -> [u8; 16]
     let threads = byte_at(bytes, 0);
     // Past the last thread a priority too, so that all sixteen pass at once.
     let mut bases = [1u8; 16];
-    let mut t: usize = 0;
-    while t < threads {
+    for t in 0..threads {
         bases[t] = bytes[2 + t];
-        t += 1;
     }
     bases
 }
@@ -39,11 +37,8 @@ fn needs_of(bytes: &[u8]) -> [u16; 16]
 {
     let threads = byte_at(bytes, 0);
     let mut needs = [0u16; 16];
-    let mut t: usize = 0;
-    while t < threads {
-        let w = word_at(bytes, 2 + threads + 2 * t);
-        needs[t] = w;
-        t += 1;
+    for t in 0..threads {
+        needs[t] = word_at(bytes, 2 + threads + 2 * t);
     }
     needs
 }
@@ -85,23 +80,41 @@ fn has_needs(bytes: &[u8]) -> bool
     questions::needs_pass(byte_at(bytes, 0), byte_at(bytes, 1), needs)
 }
 
-// Questions 1 to 4: the number of the first No, 0 if there is none. Rules out refusing all, and naming a later No.
-pub fn refusal(bytes: &[u8]) -> u8
-    ensures { result ≡ number (refusal bytes.now) }
+// What refuses a plan: the question among 1 to 4 with the first No.
+#[derive(Clone, Copy, Debug, PartialEq, Eq)]
+pub enum Refusal {
+    Counts = 1,
+    Length = 2,
+    Priorities = 3,
+    Needs = 4,
+}
+
+impl Refusal {
+    // The number of the question. Rules out one number for all, and numbers that count from 0.
+    pub fn number(self) -> u8
+        ensures { result ≡ question self }
+    {
+        self as u8
+    }
+}
+
+// Questions 1 to 4, in their order: the first No refuses. Rules out refusing all, and naming a later No.
+pub fn ask(bytes: &[u8]) -> Result<(), Refusal>
+    ensures { refused result ≡ refusal bytes.now }
 {
     if !has_counts(bytes) {
-        return 1;
+        return Err(Refusal::Counts);
     }
     if !has_length(bytes) {
-        return 2;
+        return Err(Refusal::Length);
     }
     if !has_priorities(bytes) {
-        return 3;
+        return Err(Refusal::Priorities);
     }
     if !has_needs(bytes) {
-        return 4;
+        return Err(Refusal::Needs);
     }
-    0
+    Ok(())
 }
 
 // The plan of bytes that nothing refuses. Rules out an empty plan, and needs read high byte first.
@@ -115,4 +128,13 @@ pub fn read(bytes: &[u8]) -> Plan
         bases: bases_of(bytes),
         needs: needs_of(bytes),
     }
+}
+
+// The plan of any bytes, or what refuses them. Rules out the plan of bytes that are refused, and refusing a plan that passes.
+pub fn parse(bytes: &[u8]) -> Result<Plan, Refusal>
+    ensures refusal { refused result ≡ refusal bytes.now }
+    ensures plan { IfOk result (λ plan. Made plan (plan_of bytes.now)) }
+{
+    ask(bytes)?;
+    Ok(read(bytes))
 }

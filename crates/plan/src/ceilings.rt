@@ -6,7 +6,6 @@ ghost use Rattle.plan.specs.View.{view, Fits};
 
 use crate::Plan;
 use crate::lookup::needs_bit;
-use crate::order::greater;
 
 // The greatest base so far, with one more thread: its base counts if it needs the section.
 fn raise(top: u8, base: u8, needs: u16, section: u8) -> u8
@@ -14,7 +13,7 @@ fn raise(top: u8, base: u8, needs: u16, section: u8) -> u8
     ensures { result ≡ cond (bit needs section) (max top base) top }
 {
     if needs_bit(needs, section) {
-        greater(top, base)
+        top.max(base)
     } else {
         top
     }
@@ -25,11 +24,8 @@ fn raised(all: [u8; 16], base: u8, needs: u16) -> [u8; 16]
     ensures { result ≡ map (λ s. cond (bit needs s) (max (get_or all s 0) base) (get_or all s 0)) (up_to 16) }
 {
     let mut next = all;
-    let mut s: usize = 0;
-    while s < 16 {
-        let top = raise(all[s], base, needs, s as u8);
-        next[s] = top;
-        s += 1;
+    for s in 0..16 {
+        next[s] = raise(all[s], base, needs, s as u8);
     }
     next
 }
@@ -44,11 +40,9 @@ pub fn ceilings(plan: Plan) -> [u8; 16]
     let bases = plan.bases;
     let needs = plan.needs;
     let mut all = [0u8; 16];
-    let mut t: usize = 0;
-    while t < threads {
+    for t in 0..threads {
         let next = raised(all, bases[t], needs[t]);
         all = next;
-        t += 1;
     }
     all
 }

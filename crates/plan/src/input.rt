@@ -6,10 +6,8 @@ ghost use Rattle.plan.specs.Bytes.{plan_length};
 pub fn plan_length(input: &[u8]) -> usize
     ensures { (result ≡ plan_length input.now) × (result ≤ length input.now) }
 {
-    let n = input.len();
-    if n == 0 {
-        return 0;
+    match input.first() {
+        Some(threads) => input.len().min(2 + 3 * usize::from(*threads)),
+        None => 0,
     }
-    let whole = 2 + 3 * (input[0] as usize);
-    if n < whole { n } else { whole }
 }

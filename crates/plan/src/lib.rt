@@ -1,7 +1,6 @@
 // The plan of a module: its bytes, questions 1 to 4, and what the machine asks of it.
 #![tactic(auto)]
 
-pub mod order; // order.rt: the greater of two numbers
 pub mod words; // words.rt: numbers of two bytes, low byte first
 pub mod bytes; // bytes.rt: what refuses a plan's bytes, and the plan that they stand for
 pub mod ceilings; // ceilings.rt: the ceilings of the sections

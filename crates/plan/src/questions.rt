@@ -42,14 +42,7 @@ pub(crate) fn bases_pass(threads: usize, bases: [u8; 16]) -> bool
     requires { threads ≤ 16 }
     ensures { result ≡ all is_priority (in_use threads bases) }
 {
-    let mut t: usize = 0;
-    while t < threads {
-        if !is_priority(bases[t]) {
-            return false;
-        }
-        t += 1;
-    }
-    true
+    bases[..threads].iter().all(|base| is_priority(*base))
 }
 
 // 4: Is every needs bit at S or above zero?
@@ -57,29 +50,18 @@ pub(crate) fn needs_pass(threads: usize, sections: usize, needs: [u16; 16]) -> b
     requires { (threads ≤ 16) × (sections ≤ 16) }
     ensures { result ≡ all (needs_within sections) (in_use threads needs) }
 {
-    let mut t: usize = 0;
-    while t < threads {
-        if !needs_within(sections, needs[t]) {
-            return false;
-        }
-        t += 1;
-    }
-    true
+    needs[..threads]
+        .iter()
+        .all(|needs| needs_within(sections, *needs))
 }
 
 // Whether all sixteen entries are priorities, those past the last thread too: asked at once, without an early end.
 fn all_priorities(bases: [u8; 16]) -> bool
     ensures { result ≡ all is_priority (in_use 16 bases) }
 {
-    let mut pass = true;
-    let mut t: usize = 0;
-    while t < 16 {
-        if !is_priority(bases[t]) {
-            pass = false;
-        }
-        t += 1;
-    }
-    pass
+    bases
+        .iter()
+        .fold(true, |pass, base| pass & is_priority(*base))
 }
 
 // Whether all sixteen entries have no bit at S or above, in the same way.
@@ -87,15 +69,9 @@ fn all_within(sections: usize, needs: [u16; 16]) -> bool
     requires { sections ≤ 16 }
     ensures { result ≡ all (needs_within sections) (in_use 16 needs) }
 {
-    let mut within = true;
-    let mut t: usize = 0;
-    while t < 16 {
-        if !needs_within(sections, needs[t]) {
-            within = false;
-        }
-        t += 1;
-    }
-    within
+    needs
+        .iter()
+        .fold(true, |pass, needs| pass & needs_within(sections, *needs))
 }
 
 // Whether a plan that came from outside passes; the counts are tested before an entry is read. Rules out passing all, and

@@ -7,7 +7,7 @@ pub fn word_at(bytes: &[u8], place: usize) -> u16
     requires { place + 1 < length bytes.now }
     ensures { result ≡ word bytes.now place }
 {
-    let low = bytes[place] as u16;
-    let high = bytes[place + 1] as u16;
-    low + 256 * high
+    let low = bytes[place];
+    let high = bytes[place + 1];
+    u16::from_le_bytes([low, high])
 }

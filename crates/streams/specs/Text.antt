@@ -26,3 +26,7 @@ abbrev pub line : List (List ℕ) → List ℕ
 line [] = ascii "\n"
 line (w ∷ []) = w ++ ascii "\n"
 line (w ∷ v ∷ ws) = w ++ (ascii " " ++ line (v ∷ ws))
+
+-- a number behind a space
+abbrev pub spaced : ℕ → List ℕ
+spaced n = ascii " " ++ decimal n

@@ -1,67 +1,36 @@
-// Standard input, as far as a buffer holds it, and whether it could be read.
-ghost use Rattle.std.specs.Prelude.{◌≡◌, ◌<◌, ◌^◌, true, IfOk};
-ghost use Rattle.io.specs.Counts.{IsPrefixLen};
-ghost use Rattle.streams.specs.Input.{answer_of, meaning_of};
+// Standard input, or what else can be read, as far as a buffer holds it.
+ghost use Rattle.std.specs.Prelude.{◌≡◌, IfOk, IfSome, length, take};
+ghost use Rattle.std.specs.Io.{ReadsAtMost};
+ghost use Rattle.std.specs.Io.KnownBytes.{Consumes};
+ghost use Rattle.streams.specs.Input.{meaning_of};
 
-use std::io::{Read, Result, Stdin};
+use std::io::{Read, Result};
 
-// What a call of `read` did: it failed, found the end of the input, or moved so many bytes.
-#[derive(Clone, Copy)]
-enum Outcome {
-    Failed,
-    Ended,
-    Moved(usize),
-}
-
-// How many bytes of the input stand at the front of the buffer; none that count where it could not be read.
-#[derive(Clone, Copy)]
-pub struct Input {
-    pub size: usize,
-    pub failed: bool,
-}
-
-// By the number that C answers. Rules out taking a failure for the end of the input.
-fn meaning(got: isize) -> Outcome
+// How many bytes a read moved, none where it found the end of the input. Rules out a failure that is taken for the end or for bytes, and the
+// other way round.
+fn meaning(got: Result<usize>) -> Result<Option<usize>>
     ensures { result ≡ meaning_of got }
 {
-    if got < 0 {
-        return Outcome::Failed;
-    }
-    if got == 0 {
-        return Outcome::Ended;
-    }
-    Outcome::Moved(got as usize)
-}
-
-// The number by which C answers a read. Rules out a failure that is told as the end of the input, or as bytes that were moved.
-fn answer(got: Result<usize>) -> isize
-    requires { IfOk got (λ n. n < 2 ^ 63) }
-    ensures { result ≡ answer_of got }
-{
     match got {
-        Ok(n) => n as isize,
-        Err(_) => -1,
+        Ok(0) => Ok(None),
+        Ok(n) => Ok(Some(n)),
+        Err(e) => Err(e),
     }
 }
 
-// Until the input ends or the buffer is full. Where a read fails, nothing is told of what was read before.
-pub fn read_input(stdin: &mut Stdin, buf: &mut [u8]) -> Input
-    ensures prefix_len { IsPrefixLen result.size buf.new }
-    ensures size_value { result.failed ≡ true → result.size ≡ 0 }
+// Until the input ends or the buffer is full; how many bytes of it stand at the buffer's front. Where a read fails, nothing is told of what was
+// read before. A loop of its own: std's `read_to_end` wants a heap, and `read_exact` does not say how far an input came that ends early.
+pub fn read_input<R: Read>(reader: &mut R, buf: &mut [u8]) -> Result<usize>
+    ensures prefix_len { ReadsAtMost result buf.new }
+    ensures bytes { IfOk result (λ n. IfSome (R.remaining reader.old) (λ input. take n buf.new ≡ take (length buf.new) input)) }
+    ensures rest { IfOk result (λ n. Consumes (R.remaining reader.old) (R.remaining reader.new) (take n buf.new)) }
 {
     let mut done = 0;
     while done < buf.len() {
-        match meaning(answer(stdin.read(&mut buf[done..]))) {
-            Outcome::Failed => return Input {
-                size: 0,
-                failed: true,
-            },
-            Outcome::Ended => break,
-            Outcome::Moved(n) => done += n,
+        match meaning(reader.read(&mut buf[done..]))? {
+            None => break,
+            Some(n) => done += n,
         }
     }
-    Input {
-        size: done,
-        failed: false,
-    }
+    Ok(done)
 }

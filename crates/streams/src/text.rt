@@ -1,51 +1,54 @@
-// A word and its numbers as a line of text, at the front of a lent buffer.
-ghost use Rattle.std.specs.Prelude.{◌≡◌, [], ◌∷◌, ◌++◌, ◌+◌, ◌≤◌, length, take};
-ghost use Rattle.io.specs.Counts.{IsPrefixLen};
-ghost use Rattle.streams.specs.Text.{ascii, decimal, line};
+// A word and its numbers as a line of text, in memory of a fixed size.
+ghost use Rattle.std.specs.Prelude.{◌≡◌, ◌∷◌, ◌++◌, ◌+◌, ◌*◌, ◌≤◌, length, map};
+ghost use Rattle.std.specs.List.{flat_map};
+ghost use Rattle.arrayvec.specs.ArrayVec.{array_vec_len};
+ghost use Rattle.streams.specs.Text.{ascii, decimal, spaced, line};
 
-// The text so far ends at `at`; these bytes come behind it. Answers where the text then ends.
-fn put(text: &[u8], out: &mut [u8], at: usize) -> usize
-    requires { at + length text.now ≤ length out.old }
-    ensures { (result ≡ at + length text.now) × (take result out.new ≡ take at out.old ++ text.now) }
+use arrayvec::ArrayVec;
+use itoa::Buffer;
+
+// A text of at most 64 bytes.
+pub type Text = ArrayVec<u8, 64>;
+
+// These bytes come behind the text so far.
+fn put(piece: &[u8], out: &mut Text)
+    requires { array_vec_len out.old + length piece.now ≤ 64 }
+    ensures text { out.new.items ≡ out.old.items ++ piece.now }
+    ensures len { array_vec_len out.new ≡ array_vec_len out.old + length piece.now }
 {
-    let mut i = 0;
-    while i < text.len() {
-        out[at + i] = text[i];
-        i += 1;
-    }
-    at + i
+    out.try_extend_from_slice(piece).unwrap()
 }
 
 // The same for a space and a number's decimal digits.
-fn put_number(n: u64, out: &mut [u8], at: usize) -> usize
-    requires { at + 21 ≤ length out.old }
-    ensures { (result ≤ at + 21) × (take result out.new ≡ take at out.old ++ (ascii " " ++ decimal n)) }
+fn put_number(n: u64, out: &mut Text)
+    requires { array_vec_len out.old + 21 ≤ 64 }
+    ensures text { out.new.items ≡ out.old.items ++ (ascii " " ++ decimal n) }
+    ensures len { array_vec_len out.new ≤ array_vec_len out.old + 21 }
 {
-    let mut digits = [0u8; 20];
-    let k = io::decimal(n, &mut digits);
-    let from = put(b" ", out, at);
-    put(&digits[..k], out, from)
+    put(b" ", out);
+    put(Buffer::new().format(n).as_bytes(), out);
 }
 
-// A word and a number, as in `refused 5`. Answers how long the line is.
-pub fn one_number(word: &[u8], n: u64, out: &mut [u8; 64]) -> usize
-    requires { length word.now ≤ 21 }
-    ensures prefix_len { IsPrefixLen result out.new }
-    ensures out_after { take result out.new ≡ line (word.now ∷ decimal n ∷ []) }
+// The same for several numbers.
+fn put_numbers(numbers: &[u64], out: &mut Text)
+    requires { array_vec_len out.old + 21 * length numbers.now ≤ 64 }
+    ensures text { out.new.items ≡ out.old.items ++ flat_map spaced numbers.now }
+    ensures len { array_vec_len out.new ≤ array_vec_len out.old + 21 * length numbers.now }
 {
-    let a = put(word, out, 0);
-    let b = put_number(n, out, a);
-    put(b"\n", out, b)
+    for &n in numbers {
+        put_number(n, out);
+    }
 }
 
-// A word and two numbers, as in `clean 17 0`.
-pub fn two_numbers(word: &[u8], first: u64, second: u64, out: &mut [u8; 64]) -> usize
-    requires { length word.now ≤ 21 }
-    ensures prefix_len { IsPrefixLen result out.new }
-    ensures out_after { take result out.new ≡ line (word.now ∷ decimal first ∷ decimal second ∷ []) }
+// A word and its numbers, two at most, as in `refused 5` or `clean 17 0`.
+pub fn line(word: &[u8], numbers: &[u64]) -> Text
+    requires word { length word.now ≤ 21 }
+    requires numbers { length numbers.now ≤ 2 }
+    ensures { result.items ≡ line (word.now ∷ map decimal numbers.now) }
 {
-    let a = put(word, out, 0);
-    let b = put_number(first, out, a);
-    let c = put_number(second, out, b);
-    put(b"\n", out, c)
+    let mut out = Text::new();
+    put(word, &mut out);
+    put_numbers(numbers, &mut out);
+    put(b"\n", &mut out);
+    out
 }

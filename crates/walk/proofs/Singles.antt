@@ -1,22 +1,23 @@
 -- A walk over one record: what it asks, and that it answers what a step of the model does.
 use mathlib.Core.Path.{◌≡◌, refl, ap, sym, subst, ◌∙◌}
-use mathlib.Core.Logic.{◌⊎◌, inl, inr, ◌≢◌}
-use mathlib.Core.Bool.{Bool, cond}
+use mathlib.Core.Logic.{inr}
+use mathlib.Core.Bool.{Bool, true, false, cond}
 use mathlib.Core.List.{List, [], ◌∷◌, map}
 use Prim.Native.Nat.{ℕ, suc, ◌+◌, ◌-◌}
 use native.Mathlib.Omega.{arith}
-use borrow.Author.Tests.{eq-eqb, ne_eqb}
-use lib.Dec.{T, eqb}
+use lib.Dec.{T}
 use lib.ListN.{length}
+use Rattle.std.specs.Prelude.{Result, is_ok}
 use Rattle.model.specs.Searches.{count_from}
 use Rattle.model.specs.Plan.{Plan}
 use Rattle.model.specs.Records.{Record}
 use Rattle.model.specs.State as state
 use Rattle.model.specs.Runs.{Outcome, moved, broke, step, Verdict, clean, breach, run}
-use Rattle.model.proofs.Tests.{equal?}
 use Rattle.model.proofs.Laws.{run_ended, run_moved, run_broke}
 use Rattle.machine.specs.declared.state.State.{State}
+use Rattle.machine.specs.declared.rules.Rule.{Rule}
 use Rattle.machine.specs.View.{plan_of, view}
+use Rattle.machine.specs.Rules.{answer_number}
 use Rattle.machine.proofs.Laws.{formed_facts}
 use Rattle.dump.specs.Layout.{kind_at, operand_at, record_at, part}
 use Rattle.dump.specs.Questions.{operand_fits}
@@ -69,29 +70,29 @@ module _ {r : Walked} {s : State} (bytes : List ℕ) (i : ℕ) (e : WalkEnds r s
   x = record_at bytes i
 
   abbrev said : Bool → Verdict
-  said b = cond b (clean r.at (length (view r.state).due)) (breach r.at r.rule)
+  said b = cond b (clean r.at (length (view r.state).due)) (breach r.at (answer_number r.rule))
 
-  verdict : said (eqb r.rule 0) ≡ run p i (x ∷ []) (view s)
+  verdict : said (is_ok r.rule) ≡ run p i (x ∷ []) (view s)
   verdict = e.verdict ∙ ap (λ l. run p i l (view s)) (one_part bytes i)
 
   after : (o : Outcome) → step p (view s) x ≡ o → view r.state ≡ ended p i x (view s) o
   after o q = e.state' ∙ ap (λ l. ends p l (view s)) (one_part bytes i) ∙ one_ends p i x (view s) o q
 
-  walk_broke : r.rule ≢ 0 → (step p (view s) x ≡ broke r.rule) × (view r.state ≡ view s)
+  walk_broke : is_ok r.rule ≡ false → (step p (view s) x ≡ broke (answer_number r.rule)) × (view r.state ≡ view s)
   walk_broke d = go (step p (view s) x) refl
     where
-      breaks : breach r.at r.rule ≡ run p i (x ∷ []) (view s)
-      breaks = sym (ap said (ne_eqb r.rule 0 d)) ∙ verdict
+      breaks : breach r.at (answer_number r.rule) ≡ run p i (x ∷ []) (view s)
+      breaks = sym (ap said d) ∙ verdict
 
-      go : (o : Outcome) → step p (view s) x ≡ o → (step p (view s) x ≡ broke r.rule) × (view r.state ≡ view s)
+      go : (o : Outcome) → step p (view s) x ≡ o → (step p (view s) x ≡ broke (answer_number r.rule)) × (view r.state ≡ view s)
       go (moved st) q = absurd (clean_breach (sym (breaks ∙ one_moved p i x (view s) st q)))
       go (broke m) q = (q ∙ ap broke (sym (breach_tells (breaks ∙ run_broke p i x [] (view s) m q)).1), after (broke m) q)
 
-  walk_moved : r.rule ≡ 0 → step p (view s) x ≡ moved (view r.state)
+  walk_moved : is_ok r.rule ≡ true → step p (view s) x ≡ moved (view r.state)
   walk_moved z = go (step p (view s) x) refl
     where
       passes : clean r.at (length (view r.state).due) ≡ run p i (x ∷ []) (view s)
-      passes = sym (ap said (eq-eqb r.rule 0 z)) ∙ verdict
+      passes = sym (ap said z) ∙ verdict
 
       go : (o : Outcome) → step p (view s) x ≡ o → step p (view s) x ≡ moved (view r.state)
       go (moved st) q = q ∙ ap moved (sym (after (moved st) q))
@@ -99,16 +100,16 @@ module _ {r : Walked} {s : State} (bytes : List ℕ) (i : ℕ) (e : WalkEnds r s
 
   -- what a step of the model answers
   pub single_answers : Advances r.state r.rule s x
-  single_answers = record { outcome = go (equal? r.rule 0); plan' = e.plan'; stays = λ d. (walk_broke d).1; keeps = e.keeps }
+  single_answers = record { outcome = go (is_ok r.rule) refl; plan' = e.plan'; stays = λ d. (walk_broke d).1; keeps = e.keeps }
     where
-      go : (r.rule ≡ 0) ⊎ (r.rule ≢ 0) → cond (eqb r.rule 0) (moved (view r.state)) (broke r.rule) ≡ step p (view s) x
-      go (inl z) = rw (eq-eqb r.rule 0 z) (sym (walk_moved z))
-      go (inr d) = rw (ne_eqb r.rule 0 d) (sym (walk_broke d).0)
+      go : (b : Bool) → is_ok r.rule ≡ b → cond b (moved (view r.state)) (broke (answer_number r.rule)) ≡ step p (view s) x
+      go true z = sym (walk_moved z)
+      go false d = sym (walk_broke d).0
 
 -- a step moves as the model's does, or answers its rule
-module _ {after : State} {rule : ℕ} {s : State} {r : Record} (a : Advances after rule s r) where
-  pub answers_moved : rule ≡ 0 → step (plan_of s.machine) (view s) r ≡ moved (view after)
-  answers_moved e = sym a.outcome ∙ ap (λ b. cond b (moved (view after)) (broke rule)) (eq-eqb rule 0 e)
+module _ {after : State} {rule : Result Unit Rule} {s : State} {r : Record} (a : Advances after rule s r) where
+  pub answers_moved : is_ok rule ≡ true → step (plan_of s.machine) (view s) r ≡ moved (view after)
+  answers_moved e = sym a.outcome ∙ ap (λ b. cond b (moved (view after)) (broke (answer_number rule))) e
 
-  pub answers_broke : rule ≢ 0 → step (plan_of s.machine) (view s) r ≡ broke rule
-  answers_broke d = sym a.outcome ∙ ap (λ b. cond b (moved (view after)) (broke rule)) (ne_eqb rule 0 d)
+  pub answers_broke : is_ok rule ≡ false → step (plan_of s.machine) (view s) r ≡ broke (answer_number rule)
+  answers_broke d = sym a.outcome ∙ ap (λ b. cond b (moved (view after)) (broke (answer_number rule))) d

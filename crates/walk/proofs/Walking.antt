@@ -9,6 +9,7 @@ use native.Mathlib.Omega.{arith}
 use borrow.Author.Tests.{eq-eqb, ne_eqb, ltb-true, ltb-false}
 use lib.Dec.{T, eqb, ltb}
 use lib.ListN.{length}
+use Rattle.std.specs.Prelude.{is_ok}
 use Rattle.model.specs.Plan as model
 use Rattle.model.specs.Records as records
 use Rattle.model.specs.State as state
@@ -23,6 +24,7 @@ use Rattle.machine.specs.declared.Machine.{Machine}
 use Rattle.machine.specs.declared.state.State.{State}
 use Rattle.machine.specs.declared.reporting.Reporting.{Reporting}
 use Rattle.machine.specs.View.{plan_of, view, shown}
+use Rattle.machine.specs.Rules.{answer_number}
 use Rattle.machine.specs.Kept.{kept}
 use Rattle.machine.specs.Clauses.{Ceilings, opened}
 use Rattle.machine.specs.Calls.{Stands, Asks, Answers, Closes}
@@ -127,21 +129,21 @@ module _ {first : State} {ceilings : List ℕ} {bytes : List ℕ} {from to : ℕ
 
     -- where the walk ends, with its verdict: here, or at the record that breaks a rule
     ended : {after : Reporting} {s : State} {at : ℕ} → after.machine.plan ≡ first.machine.plan → Stands after → Closes s after
-        → (cond (eqb after.rule 0) (clean at (length (shown after).due)) (breach at after.rule), shown after) ≡ finish (plan_of first.machine) from (part bytes from to) (view first)
+        → (cond (is_ok after.rule) (clean at (length (shown after).due)) (breach at (answer_number after.rule)), shown after) ≡ finish (plan_of first.machine) from (part bytes from to) (view first)
         → WalkEnds (record { state = s; at = at; rule = after.rule }) first bytes from to
     ended {after} {s} {at} q t k z =
         record {
           plan' = ap (λ (m : Machine). m.plan) k.machine' ∙ q;
-          verdict = ap (λ (x : state.State). cond (eqb after.rule 0) (clean at (length x.due)) (breach at after.rule)) k.seen ∙ ap (λ f. f.0) z;
+          verdict = ap (λ (x : state.State). cond (is_ok after.rule) (clean at (length x.due)) (breach at (answer_number after.rule))) k.seen ∙ ap (λ f. f.0) z;
           state' = k.seen ∙ ap (λ f. f.1) z;
           keeps = subst (λ (m : Machine). T (kept m)) (sym k.machine') t.keeps;
         }
 
     -- behind the last record
-    pub walk_ends : c.rule ≡ 0 → to ≤ i → {s : State} → Closes s c → WalkEnds (record { state = s; at = i; rule = c.rule }) first bytes from to
+    pub walk_ends : is_ok c.rule ≡ true → to ≤ i → {s : State} → Closes s c → WalkEnds (record { state = s; at = i; rule = c.rule }) first bytes from to
     walk_ends e h k =
         ended w.plan' w.stands k
-        (ap (λ b. (cond b (clean i (length (shown c).due)) (breach i c.rule), shown c)) (eq-eqb c.rule 0 e)
+        (ap (λ b. (cond b (clean i (length (shown c).due)) (breach i (answer_number c.rule)), shown c)) e
         ∙ sym (finish_ended (plan_of c.machine) i (shown c))
         ∙ sym (done (λ l. finish (plan_of c.machine) i (map (record_at bytes) l) (shown c)) to i h)
         ∙ w.leads)
@@ -207,15 +209,15 @@ module _ {first : State} {ceilings : List ℕ} {bytes : List ℕ} {from to : ℕ
         turned = sym (turn (λ l. finish (plan_of c.machine) i (map (record_at bytes) l) (shown c)) to i h) ∙ w.leads
 
         -- the record breaks a rule
-        pub walk_breaks : after.rule ≢ 0 → {s : State} → Closes s after → WalkEnds (record { state = s; at = i; rule = after.rule }) first bytes from to
+        pub walk_breaks : is_ok after.rule ≡ false → {s : State} → Closes s after → WalkEnds (record { state = s; at = i; rule = after.rule }) first bytes from to
         walk_breaks d k =
             ended (b.plan' ∙ w.plan') b.stands' k
-            (ap (λ x. (cond x (clean i (length (shown after).due)) (breach i after.rule), shown after)) (ne_eqb after.rule 0 d)
-            ∙ ap (λ (st : state.State). (breach i after.rule, st)) (b.stays d)
-            ∙ sym (finish_broke (plan_of c.machine) i (record_at bytes i) (map (record_at bytes) (left (i + 1) to)) (shown c) after.rule (answers_broke b d)) ∙ turned)
+            (ap (λ x. (cond x (clean i (length (shown after).due)) (breach i (answer_number after.rule)), shown after)) d
+            ∙ ap (λ (st : state.State). (breach i (answer_number after.rule), st)) (b.stays d)
+            ∙ sym (finish_broke (plan_of c.machine) i (record_at bytes i) (map (record_at bytes) (left (i + 1) to)) (shown c) (answer_number after.rule) (answers_broke b d)) ∙ turned)
 
         -- the record moves the machine
-        pub walk_moves : after.rule ≡ 0 → Walking first.machine.plan (view first) bytes from to after (i + 1)
+        pub walk_moves : is_ok after.rule ≡ true → Walking first.machine.plan (view first) bytes from to after (i + 1)
         walk_moves k =
             record {
               plan' = b.plan' ∙ w.plan';

@@ -1,5 +1,5 @@
 -- What a walk over records asks and answers.
-use Rattle.std.specs.Prelude.{◌≡◌, ◌⊎◌, cond, List, [], ◌∷◌, ℕ, ◌+◌, ◌-◌, ◌≤◌, ◌<◌, T, eqb, length}
+use Rattle.std.specs.Prelude.{◌≡◌, ◌⊎◌, false, cond, List, [], ◌∷◌, ℕ, ◌+◌, ◌-◌, ◌≤◌, ◌<◌, T, length, Result, is_ok}
 use Rattle.model.specs.Plan as model
 use Rattle.model.specs.Records as records
 use Rattle.model.specs.State as state
@@ -7,6 +7,8 @@ use Rattle.model.specs.Runs.{clean, breach, moved, broke, step, run}
 use Rattle.model.specs.Formed.{last_tick, formed}
 use Rattle.model.proofs.Laws.{Reached}
 use Rattle.machine.specs.declared.state.State.{State}
+use Rattle.machine.specs.declared.rules.Rule.{Rule}
+use Rattle.machine.specs.Rules.{answer_number}
 use Rattle.machine.specs.View.{plan_of, view}
 use Rattle.machine.specs.Kept.{kept}
 use Rattle.machine.specs.Clauses.{Ceilings}
@@ -43,7 +45,7 @@ pub record Walks (s : State) (ceilings : List ℕ) (bytes : List ℕ) (from to :
 -- a walk ends where the run does, with its verdict, and the owner is kept
 pub record WalkEnds (r : Walked) (s : State) (bytes : List ℕ) (from to : ℕ) : Type 0 where
   pub plan' : r.state.machine.plan ≡ s.machine.plan
-  pub verdict : cond (eqb r.rule 0) (clean r.at (length (view r.state).due)) (breach r.at r.rule) ≡ run (plan_of s.machine) from (part bytes from to) (view s)
+  pub verdict : cond (is_ok r.rule) (clean r.at (length (view r.state).due)) (breach r.at (answer_number r.rule)) ≡ run (plan_of s.machine) from (part bytes from to) (view s)
   pub state' : view r.state ≡ ends (plan_of s.machine) (part bytes from to) (view s)
   pub keeps : T (kept r.state.machine)
 
@@ -57,9 +59,9 @@ pub record Single (s : State) (ceilings : List ℕ) (bytes : List ℕ) (i : ℕ)
   pub operand' : T (operand_fits s.machine.plan.threads s.machine.plan.sections (kind_at bytes i) (operand_at bytes i))
   pub room : kind_at bytes i ≡ 7 → (view s).tick_number < last_tick
 
--- What a step answers of a record: the state after it, and the broken rule, 0 if there is none. A broken rule leaves the state as it came.
-pub record Advances (after : State) (rule : ℕ) (s : State) (r : records.Record) : Type 0 where
-  pub outcome : cond (eqb rule 0) (moved (view after)) (broke rule) ≡ step (plan_of s.machine) (view s) r
+-- What a step answers of a record: the state after it, and the broken rule, if any. A broken rule leaves the state as it came.
+pub record Advances (after : State) (rule : Result Unit Rule) (s : State) (r : records.Record) : Type 0 where
+  pub outcome : cond (is_ok rule) (moved (view after)) (broke (answer_number rule)) ≡ step (plan_of s.machine) (view s) r
   pub plan' : after.machine.plan ≡ s.machine.plan
-  pub stays : (rule ≡ 0 → ⊥) → view after ≡ view s
+  pub stays : is_ok rule ≡ false → view after ≡ view s
   pub keeps : T (kept after.machine)

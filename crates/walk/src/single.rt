@@ -4,13 +4,14 @@ ghost use Rattle.dump.specs.Layout.{record_count, record_at, running_place};
 ghost use Rattle.walk.specs.Clauses.{Single, Advances};
 
 use crate::walk::walk;
+use machine::rules::Rule;
 use machine::state::State;
 
-// The state after a record, and the broken rule, 0 if there is none.
+// The state after a record, and the rule that it breaks, if any.
 #[derive(Clone, Copy)]
 pub struct Stepped {
     pub state: State,
-    pub rule: u8,
+    pub rule: Result<(), Rule>,
 }
 
 // What record i of a dump or call list, with its running place, does to the state, or the rule that it breaks: see model, Runs.step.

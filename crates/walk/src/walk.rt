@@ -7,18 +7,20 @@ ghost use Rattle.walk.specs.Clauses.{Walks, WalkEnds};
 use dump::place::entry_at;
 use dump::records::record_of;
 use machine::record::Record;
+use machine::rules::Rule;
 use machine::state::State;
 
-// Where a walk ended: the state, the number of the record behind those that moved it, and the rule that this one breaks, 0 if there is none.
+// Where a walk ended: the state, the number of the record behind those that moved it, and the rule that this one breaks, if any.
 #[derive(Clone, Copy)]
 pub struct Walked {
     pub state: State,
     pub at: usize,
-    pub rule: u8,
+    pub rule: Result<(), Rule>,
 }
 
 // Walks from one record to another until one breaks a rule: see model, Runs.run. `place` is the running place of the first one. The match over
 // the record stands in the loop, so that each call's method has one caller and no record costs a copy of the machine.
+// A walk from behind `to` ends where it begins.
 pub fn walk(
     s: State,
     ceilings: &[u8; 16],
@@ -31,9 +33,8 @@ pub fn walk(
     ensures { WalkEnds result s bytes.now from to }
 {
     let mut c = s.opened();
-    let mut i: usize = from;
-    let mut running: usize = place;
-    while i < to {
+    let mut running = place;
+    for i in from..to {
         let e = entry_at(bytes, i, running);
         if c.hears(e.kind) {
             c = c.heard(e.kind, e.operand);
@@ -55,15 +56,18 @@ pub fn walk(
                 Record::Report(_) => c = c.unasked(),
             }
         }
-        if c.rule != 0 {
-            break;
+        if c.rule.is_err() {
+            return Walked {
+                state: c.closed(),
+                at: i,
+                rule: c.rule,
+            };
         }
-        i += 1;
         running += 2;
     }
     Walked {
         state: c.closed(),
-        at: i,
+        at: to.max(from),
         rule: c.rule,
     }
 }

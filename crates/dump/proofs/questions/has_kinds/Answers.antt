@@ -4,7 +4,7 @@ use native.Mathlib.Omega.{arith}
 use borrow.Author.Tests.{not-true, not-false}
 use Rattle.dump.specs.Layout.{record_count}
 use Rattle.dump.specs.Questions.{kind_allowed}
-use Rattle.dump.proofs.Asking.{asking, passes, fails, all_pass}
+use Rattle.dump.proofs.Asking.{passes, fails}
 use Rattle.dump.proofs.questions.has_kinds.Invariants.{asked}
 use Rattle.dump.proofs.questions.has_kinds.Goals as goal
 use Rattle.dump.proofs.questions.has_kinds.Goals.{After-kind_allowed, At-loop-i}
@@ -15,11 +15,6 @@ answered : (c : goal.After-kind_allowed)
 answered c =
     let a = c.args in
     c.kind_allowed.ensures ∙ ap (kind_allowed a.list) c.kind_at.ensures
-
-pub loop-i-init : goal.loop-i-init
-loop-i-init c =
-    let a = c.args in
-    asking (asked a.list a.bytes.now) (record_count a.bytes.now)
 
 pub returns-then-not-kind_allowed : goal.returns-then-not-kind_allowed
 returns-then-not-kind_allowed c =
@@ -32,8 +27,3 @@ loop-i-preserved c =
     let a = c.args in
     passes (asked a.list a.bytes.now) (record_count a.bytes.now) c.loop-i.i c.loop-i.invariant (omega arith)
     (sym (answered (goal.at.loop-i-preserved c).After-kind_allowed) ∙ not-false c.kind_allowed.result c.if-not-kind_allowed.false-raw)
-
-pub returns : goal.returns
-returns c =
-    let a = c.args in
-    all_pass (asked a.list a.bytes.now) (record_count a.bytes.now) c.loop-i.i c.loop-i.invariant (omega arith)

@@ -1,7 +1,7 @@
 -- `has_kinds` meets its contract: a loop that asks whether all pass.
 use mathlib.Core.Bool.{Bool}
 use mathlib.Core.List.{List}
-use Prim.Native.Nat.{ℕ, ◌-◌}
+use Prim.Native.Nat.{ℕ}
 use Rattle.dump.specs.Layout.{record_count, kind_at}
 use Rattle.dump.specs.Questions.{kind_allowed}
 use Rattle.dump.proofs.Asking.{Asking}
@@ -13,6 +13,3 @@ asked calls_only bytes i = kind_allowed calls_only (kind_at bytes i)
 
 abbrev pub invariant-loop-i : goal.invariant-loop-i
 invariant-loop-i l = Asking (asked l.list l.bytes) (record_count l.bytes) l.i
-
-abbrev pub decreases-loop-i : goal.decreases-loop-i
-decreases-loop-i l = l.n - l.i

@@ -1,17 +1,17 @@
 -- `has_records` meets its contract: a loop that asks whether all pass. The table's entry of a kind admits just the operands that pass with it, and the
 -- running place is that of the record whose turn it is.
-use mathlib.Core.Path.{◌≡◌, ap, ap₂, sym, ◌∙◌}
+use mathlib.Core.Path.{◌≡◌, ap₂, sym, ◌∙◌}
 use mathlib.Core.Bool.{Bool, ◌&&◌}
 use mathlib.Core.List.{List}
 use Prim.Native.Nat.{ℕ, ◌<◌}
 use native.Mathlib.Omega.{arith}
 use borrow.Author.Tests.{not-true, not-false}
 use Rattle.model.specs.Searches.{all, up_to}
-use Rattle.dump.specs.Layout.{record_count, kind_at, operand_at, running_place}
+use Rattle.dump.specs.Layout.{record_count, kind_at, operand_at}
 use Rattle.dump.specs.Questions.{kind_allowed, operand_fits, has_kinds, has_operands}
 use Rattle.dump.specs.Operands.{record_fits}
 use Rattle.dump.proofs.Operands.{no_kind}
-use Rattle.dump.proofs.Asking.{asking, passes, fails, all_pass, both}
+use Rattle.dump.proofs.Asking.{passes, fails, all_pass, both}
 use Rattle.dump.proofs.Running.{running_place_lem, running_next}
 use Rattle.dump.proofs.questions.has_records.Invariants.{asked}
 use Rattle.dump.proofs.questions.has_records.Goals as goal
@@ -40,18 +40,6 @@ answered c =
     let r = c.entry_at-e.result in
     c.admits.ensures ∙ c.bounds_table-table.ensures r.kind (omega arith) r.operand (omega arith)
     ∙ ap₂ (record_fits a.threads a.sections a.list) c.entry_at-e.ensures.0 c.entry_at-e.ensures.1
-
-pub first_operand-running-requires : goal.first_operand-running-requires
-first_operand-running-requires c = omega (arith, c.record_count-n.ensures, c.requires.count)
-
-pub loop-i-init : goal.loop-i-init
-loop-i-init c =
-    let a = c.args in
-    (asking (asked a.threads a.sections a.list a.bytes.now) (record_count a.bytes.now), c.first_operand-running.ensures ∙ ap (λ m. running_place m 0) c.record_count-n.ensures)
-
-pub entry_at-e-requires : goal.entry_at-e-requires
-entry_at-e-requires c =
-    (c.requires, omega (arith, c.loop-i-test.true, c.record_count-n.ensures), c.loop-i.invariant.1)
 
 -- record i is there
 within : (e : goal.After-entry_at-e) → (e.loop-i.i < (record_count e.args.bytes.now))

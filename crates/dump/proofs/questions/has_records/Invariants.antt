@@ -3,7 +3,7 @@
 use mathlib.Core.Path.{◌≡◌}
 use mathlib.Core.Bool.{Bool}
 use mathlib.Core.List.{List}
-use Prim.Native.Nat.{ℕ, ◌-◌}
+use Prim.Native.Nat.{ℕ}
 use Rattle.dump.specs.Layout.{record_count, kind_at, operand_at, running_place}
 use Rattle.dump.specs.Operands.{record_fits}
 use Rattle.dump.proofs.Asking.{Asking}
@@ -15,6 +15,3 @@ asked threads sections calls_only bytes i = record_fits threads sections calls_o
 
 abbrev pub invariant-loop-i : goal.invariant-loop-i
 invariant-loop-i l = Asking (asked l.threads l.sections l.list l.bytes) (record_count l.bytes) l.i × (l.running ≡ running_place (record_count l.bytes) l.i)
-
-abbrev pub decreases-loop-i : goal.decreases-loop-i
-decreases-loop-i l = l.n - l.i

@@ -1,10 +1,10 @@
 -- `fit` meets its contract: where nobody waits the tick numbers decide, and else every thread is asked.
 use mathlib.Core.Path.{sym, ◌∙◌}
-use Rattle.formed.proofs.Calm.{calm_range}
+use Rattle.formed.proofs.Calm.{calm_stood, calm_range}
 use Rattle.formed.proofs.conditions.fit.Goals as goal
 use Rattle.formed.proofs.conditions.fit.Goals.{Start}
 
-pub returns-then-in_time : goal.returns-then-in_time
-returns-then-in_time c =
-    let a = c.args in
-    sym (calm_range a.slots a.wakes a.threads a.sections c.requires.0 (c.requires.2 c.if-calm.true) (sym c.in_time.ensures ∙ c.if-in_time.true))
+pub returns-then-none_later : goal.returns-then-none_later
+returns-then-none_later c =
+    let m = c.args.m in
+    sym (calm_range m.slots m.wakes m.plan.threads m.plan.sections c.requires.0.fits.threads (calm_stood m c.requires.1 c.if-calm.true) (sym c.none_later.ensures ∙ c.if-none_later.true))

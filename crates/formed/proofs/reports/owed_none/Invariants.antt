@@ -2,7 +2,7 @@
 use mathlib.Core.Path.{◌≡◌, ◌∙◌}
 use mathlib.Core.Bool.{Bool, true, false, cond}
 use mathlib.Core.List.{◌∷◌}
-use Prim.Native.Nat.{ℕ, ◌+◌, ◌-◌, ◌≤◌, ◌<◌}
+use Prim.Native.Nat.{ℕ, ◌+◌, ◌≤◌, ◌<◌}
 use native.Mathlib.Omega.{arith}
 use lib.ListN.{drop}
 use Rattle.model.specs.Searches.{up_to}
@@ -31,7 +31,4 @@ module _ (ts : Timers) (rs : Reports) (given : ℕ) where
       go false q = rw q
 
 abbrev pub invariant-loop-i : goal.invariant-loop-i
-invariant-loop-i l = (l.count ≤ l.i) × (l.i ≤ 8) × (l.count + from l.timers l.reports l.given l.i ≡ times (passes l.timers l.reports l.given) (up_to timer_count))
-
-abbrev pub decreases-loop-i : goal.decreases-loop-i
-decreases-loop-i l = 8 - l.i
+invariant-loop-i l = (l.count ≤ l.i) × (l.count + from l.timers l.reports l.given l.i ≡ times (passes l.timers l.reports l.given) (up_to timer_count))

@@ -1,11 +1,12 @@
 -- `names` meets its contract: a loop that asks whether the table, which counts the list, has every thread as often as its condition says.
-use mathlib.Core.Path.{◌≡◌, ap, sym, ◌∙◌}
-use mathlib.Core.Bool.{Bool, true, false}
+use mathlib.Core.Path.{◌≡◌, refl, ap, sym, ◌∙◌}
+use mathlib.Core.Bool.{Bool, true, false, cond}
 use mathlib.Core.List.{List, map, map-id}
 use Prim.Native.Nat.{ℕ, ◌<◌}
 use native.Mathlib.Omega.{arith}
 use borrow.Author.Tests.{eq-eqb, ne_eqb}
 use lib.Dec.{eqb}
+use mir.Val.{bool_byte}
 use Rattle.model.specs.Searches.{all, up_to}
 use Rattle.model.proofs.Loops.{all_begin, passed, failed, all_passed}
 use Rattle.lists.specs.Words.{nibble, entry_of}
@@ -13,10 +14,10 @@ use Rattle.lists.specs.Lists.{queued}
 use Rattle.formed.specs.Clauses.{names_by, names_those}
 use Rattle.formed.proofs.standing.names.Invariants.{names_in, says}
 use Rattle.formed.proofs.standing.names.Goals as goal
-use Rattle.formed.proofs.standing.names.Goals.{After-named, At-loop-t}
+use Rattle.formed.proofs.standing.names.Goals.{After-from, At-loop-t}
 
 pub loop-t-init : goal.loop-t-init
-loop-t-init c = (omega arith, λ f e. all_begin f (λ u. u) c.args.threads)
+loop-t-init c = λ f e. all_begin f (λ u. u) c.args.threads
 
 -- the table, as it stands at the head of the loop
 module _ (k : goal.At-loop-t) where
@@ -33,28 +34,30 @@ answers k b g =
     let f : ℕ → Bool = λ t. names_by (queued a.list) a.least a.most (nibble a.states t) t in
     g f (λ u h. says (queued a.list) (found k) k.tally.ensures a.least a.most (nibble a.states u) u (omega (arith, k.requires.0))) ∙ ap (all f) (map-id (up_to a.threads))
 
+byte_of : (b : Bool) → cond b 1 0 ≡ bool_byte b
+byte_of true = refl
+byte_of false = refl
+
 -- what the table says of the thread whose turn it is
-told : (c : goal.After-named)
+told : (c : goal.After-from)
     → let a = c.args in
-    names_in (found c.before.before.before) a.least a.most (nibble a.states c.loop-t.t) c.loop-t.t ≡ eqb (entry_of (found c.before.before.before) c.loop-t.t) c.named.result
-told c = rw (← c.nibble_at-state.ensures, ← c.named.ensures)
+    names_in (found c.before.before.before.before) a.least a.most (nibble a.states c.loop-t.t) c.loop-t.t ≡ eqb (entry_of (found c.before.before.before.before) c.loop-t.t) c.from.result
+told c = rw (← c.nibble_at-state.ensures, ← c.named.ensures) (ap (eqb (entry_of (found c.before.before.before.before) c.loop-t.t)) (byte_of c.named.result ∙ sym c.from.ensures))
 
 pub returns-then-found-t : goal.returns-then-found-t
 returns-then-found-t c =
     let a = c.args in
     answers (goal.at.returns-then-found-t c).At-loop-t false (λ f e.
-    failed f (λ u. u) a.threads c.loop-t.t (omega arith) (c.loop-t.invariant.1 f e)
-    (sym (e c.loop-t.t (omega arith)) ∙ told (goal.at.returns-then-found-t c).After-named ∙ ne_eqb (entry_of (found (goal.at.returns-then-found-t c).At-loop-t) c.loop-t.t) c.named.result c.if-found-t.true))
+    failed f (λ u. u) a.threads c.loop-t.t (omega arith) (c.loop-t.invariant f e)
+    (sym (e c.loop-t.t (omega arith)) ∙ told (goal.at.returns-then-found-t c).After-from ∙ ne_eqb (entry_of (found (goal.at.returns-then-found-t c).At-loop-t) c.loop-t.t) c.from.result c.if-found-t.true))
 
 pub loop-t-preserved : goal.loop-t-preserved
 loop-t-preserved c =
-    let a = c.args in (
-      omega arith,
-      λ f e.
-          passed f (λ u. u) a.threads c.loop-t.t (omega arith) (c.loop-t.invariant.1 f e)
-          (sym (e c.loop-t.t (omega arith)) ∙ told (goal.at.loop-t-preserved c).After-named ∙ eq-eqb (entry_of (found (goal.at.loop-t-preserved c).At-loop-t) c.loop-t.t) c.named.result c.if-found-t.false),
-    )
+    let a = c.args in
+    λ f e.
+    passed f (λ u. u) a.threads c.loop-t.t (omega arith) (c.loop-t.invariant f e)
+    (sym (e c.loop-t.t (omega arith)) ∙ told (goal.at.loop-t-preserved c).After-from ∙ eq-eqb (entry_of (found (goal.at.loop-t-preserved c).At-loop-t) c.loop-t.t) c.from.result c.if-found-t.false)
 
 pub returns : goal.returns
 returns c =
-    answers (goal.at.returns c).At-loop-t true (λ f e. all_passed f (λ u. u) c.args.threads c.loop-t.t (omega arith) (c.loop-t.invariant.1 f e))
+    answers (goal.at.returns c).At-loop-t true (λ f e. all_passed f (λ u. u) c.args.threads c.loop-t.t (omega arith) (c.loop-t.invariant f e))

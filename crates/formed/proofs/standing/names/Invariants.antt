@@ -2,7 +2,7 @@
 use mathlib.Core.Path.{◌≡◌}
 use mathlib.Core.Bool.{Bool, cond, ◌&&◌}
 use mathlib.Core.List.{List, map}
-use Prim.Native.Nat.{ℕ, ◌-◌, ◌≤◌, ◌<◌}
+use Prim.Native.Nat.{ℕ, ◌<◌}
 use lib.Dec.{eqb, leb}
 use Rattle.model.specs.Searches.{up_to}
 use Rattle.model.specs.Formed.{times}
@@ -22,7 +22,4 @@ says l found e a b s t h = rw (e, listed (λ t. times (λ u. eqb u t) l) 16 t 0 
 -- whatever test agrees with the table on the threads: whether all that are left pass it is whether all do
 abbrev pub invariant-loop-t : goal.invariant-loop-t
 invariant-loop-t l =
-    (l.t ≤ l.threads) × ((f : ℕ → Bool) → ((u : ℕ) → u < l.threads → names_in l.found l.least l.most (nibble l.states u) u ≡ f u) → AllLeft f (λ u. u) l.threads l.t)
-
-abbrev pub decreases-loop-t : goal.decreases-loop-t
-decreases-loop-t l = l.threads - l.t
+    (f : ℕ → Bool) → ((u : ℕ) → u < l.threads → names_in l.found l.least l.most (nibble l.states u) u ≡ f u) → AllLeft f (λ u. u) l.threads l.t

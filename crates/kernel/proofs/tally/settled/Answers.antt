@@ -10,9 +10,6 @@ use Rattle.kernel.proofs.tally.settled.Goals.{In-loop-r}
 pub loop-r-init : goal.loop-r-init
 loop-r-init c = giving_begin c.args.state c.requires
 
-pub due_count-requires : goal.due_count-requires
-due_count-requires c = tt
-
 owes : (c : goal.In-loop-r) → Owes c.loop-r.s
 owes c = giving_owes c.loop-r.invariant (omega (arith, c.due_count.ensures, c.loop-r-test.true))
 

@@ -12,9 +12,6 @@ use Rattle.kernel.proofs.write.put_reports.Goals.{After-first_due-r, After-put, 
 pub loop-r-init : goal.loop-r-init
 loop-r-init c = putting_begin c.requires
 
-pub due_count-requires : goal.due_count-requires
-due_count-requires c = tt
-
 owes : (c : goal.In-loop-r) → Owes c.loop-r.s
 owes c = giving_owes c.loop-r.invariant.giving (omega (arith, c.due_count.ensures, c.loop-r-test.true))
 

@@ -1,9 +1,12 @@
 -- `write` meets its contract: after k calls their records stand at their places.
 use mathlib.Core.Path.{◌≡◌, refl, ap, sym, subst, ◌∙◌}
-use mathlib.Core.List.{[], ◌++◌, map}
-use Prim.Native.Nat.{◌+◌, ◌≤◌}
+use mathlib.Core.Bool.{true}
+use mathlib.Core.List.{List, [], ◌++◌, map}
+use Rattle.std.specs.Prelude.{is_ok}
+use Prim.Native.Nat.{ℕ, ◌+◌, ◌/◌, ◌%◌, ◌≤◌, ◌<◌}
 use native.Mathlib.Omega.{arith}
-use lib.ListN.{length, length-set}
+use lib.ListN.{length, get_or, set, length-set}
+use Rattle.std.specs.Int.{w16, to_le_bytes}
 use Rattle.model.specs.Records.{call, report}
 use Rattle.machine.specs.View.{view}
 use Rattle.machine.specs.Clauses.{Fresh}
@@ -15,19 +18,17 @@ use Rattle.kernel.proofs.Placing.{from_size, from_next, counted, all_placed_lem}
 use Rattle.kernel.proofs.CallList.{call_at, list_whole, calls_few, call_kind_lem, call_operand_lem}
 use Rattle.kernel.proofs.CallsMade.{added, added_count, made_begin, made_written, made_steps, made_admitted, made_within, made_formed, made_next}
 use Rattle.kernel.proofs.write.write.Goals as goal
-use Rattle.kernel.proofs.write.write.Goals.{After-put, After-put_reports-arg-1, After-put_reports-w, After-s-1, After-step-o, At-loop-k, Start}
+use Rattle.kernel.proofs.write.write.Goals.{After-put, After-put_reports-w, After-step-o, At-loop-k, Start}
+
+-- N in its two bytes
+head : (n : ℕ) (out bytes : List ℕ) → n < 65536 → bytes ≡ to_le_bytes w16 n → set (set out 0 (get_or bytes 0 0)) 1 (get_or bytes 1 0) ≡ counted n out
+head n out bytes h e = let q : (n / 256) % 256 ≡ n / 256 = omega arith in rw (e, q)
 
 pub bounds-out-0 : goal.bounds-out-0
 bounds-out-0 c = omega (arith, c.requires.1.room)
 
-pub overflow_cast-out-2 : goal.overflow_cast-out-2
-overflow_cast-out-2 c = record { fits = omega (arith, c.requires.1.few) }
-
 pub bounds-out-1 : goal.bounds-out-1
 bounds-out-1 c = simp length-set (omega (arith, c.requires.1.room))
-
-pub fresh-s-requires : goal.fresh-s-requires
-fresh-s-requires c = tt
 
 pub first_operand-from-requires : goal.first_operand-from-requires
 first_operand-from-requires c = calls_few c.requires.0
@@ -42,7 +43,7 @@ loop-k-init c =
       [],
       refl,
       made_begin f.result.machine.plan c.args.list.now f.result (subst (Fresh f.result) (sym f.ensures.plan') f.ensures),
-      refl,
+      head _ _ _ (omega (arith, c.requires.1.few)) c.to_le_bytes.ensures,
       c.first_operand-from.ensures ∙ ap (λ m. running_place m 0) c.requires.0.count,
       omega (arith, c.first_operand-to.ensures),
     )
@@ -73,7 +74,7 @@ step-o-requires c =
     (made_steps (passed (goal.at.step-o-requires c).At-loop-k) c.loop-k.invariant.3 c.loop-k-test.true, c.loop-k.invariant.5)
 
 -- every call is admitted, so this one is
-admitted : (c : goal.After-step-o) → c.step-o.result.rule ≡ 0
+admitted : (c : goal.After-step-o) → is_ok c.step-o.result.rule ≡ true
 admitted c =
     made_admitted ((let it : (let a = c.args in Passed c.fresh-s.result.machine.plan a.ceilings.now a.list.now a.calls) = let a = c.args in
     subst (λ p. Passed p a.ceilings.now a.list.now a.calls) (sym c.fresh-s.ensures.plan') c.requires.0 in it)) c.loop-k.invariant.3 c.loop-k-test.true c.step-o.result c.step-o.ensures ((let it : (let a = c.args in AllFit (made_of c.fresh-s.result.machine.plan a.list.now) a.n a.out.now) = let a = c.args in
@@ -117,17 +118,10 @@ put_reports-w-requires c =
       operands = omega (arith, fits (goal.at.put_reports-w-requires c).After-step-o, room, v.2, v.6);
     }
 
-pub overflow_add-k : goal.overflow_add-k
-overflow_add-k c =
-    record { fits = omega (arith, calls_few (passed (goal.at.overflow_add-k c).At-loop-k), c.loop-k-test.true) }
-
 pub overflow_add-from : goal.overflow_add-from
 overflow_add-from c =
     let p = passed (goal.at.overflow_add-from c).At-loop-k in
     record { fits = omega (arith, c.loop-k.invariant.5, running_place_lem (record_count c.args.list.now) c.loop-k.k, c.loop-k-test.true, p.count, (list_whole p).count) }
-
-pub loop-k-smaller : goal.loop-k-smaller
-loop-k-smaller c = omega (arith, c.loop-k-test.true)
 
 pub loop-k-preserved : goal.loop-k-preserved
 loop-k-preserved c =

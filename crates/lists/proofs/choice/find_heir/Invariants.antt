@@ -1,20 +1,15 @@
--- `find_heir` meets its contract: the heir kept so far and the waits left give the heir, and whether a hold left bars it is whether any hold does.
-use Prim.Native.Nat.{ℕ}
-use Rattle.lists.specs.Words.{entry_of}
-use Rattle.lists.specs.Lists.{held}
-use Rattle.lists.proofs.Holdings.{AnyLeft}
-use Rattle.lists.proofs.Heirs.{bars, HeirLeft}
+-- `find_heir` meets its contract: the heir kept so far and the waits left give the heir, and whether all holds left let it is whether all do.
+use mathlib.Core.Path.{◌≡◌}
+use Rattle.model.specs.Searches.{all}
+use Rattle.lists.specs.Words.{nibbles, entry_of}
+use Rattle.lists.specs.Lists.{held_in, held, queued}
+use Rattle.lists.proofs.Heirs.{lets, HeirLeft}
 use Rattle.lists.proofs.choice.find_heir.Given as goal
 
--- only the sections are walked, so whichever threads hold them
-abbrev pub invariant-loop-n : goal.invariant-loop-n
-invariant-loop-n l = (threads : ℕ) × AnyLeft (bars l.all l.b) (held l.holds) l.n l.sections threads
-
-abbrev pub decreases-loop-n : goal.decreases-loop-n
-decreases-loop-n l = l.n
+abbrev pub invariant-loop-h : goal.invariant-loop-h
+invariant-loop-h l =
+    all (lets l.ceilings l.b) (held_in l.h-iterator.left l.h-iterator.sections l.h-iterator.threads) ≡ all (lets l.ceilings l.b) (held l.holds)
 
 abbrev pub invariant-waits : goal.invariant-waits
-invariant-waits l = HeirLeft (entry_of l.bases) l.all (held l.holds) l.initial.left l.initial.rest l.who l.free l.top l.left l.rest
-
-abbrev pub decreases-waits : goal.decreases-waits
-decreases-waits l = l.left
+invariant-waits l =
+    HeirLeft (entry_of l.bases) l.ceilings (held l.holds) (queued l.fn.waits) l.who l.free l.top (nibbles l.t-iterator.left l.t-iterator.rest)

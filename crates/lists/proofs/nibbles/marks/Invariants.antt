@@ -10,8 +10,5 @@ use Rattle.lists.proofs.nibbles.marks.Given as goal
 abbrev pub Counts : (start word count total rest left : ℕ) → Type 0
 Counts start word count total rest left = (t : ℕ) → t < 16 → nibble total t + times (λ u. eqb u t) (nibbles left rest) ≡ nibble start t + times (λ u. eqb u t) (nibbles count word)
 
-abbrev pub invariant-loop-left : goal.invariant-loop-left
-invariant-loop-left l = (l.total < 2 ^ 64) × Counts l.start l.word l.count l.total l.rest l.left
-
-abbrev pub decreases-loop-left : goal.decreases-loop-left
-decreases-loop-left l = l.left
+abbrev pub invariant-loop-t : goal.invariant-loop-t
+invariant-loop-t l = (l.total < 2 ^ 64) × Counts l.start l.word l.count l.total l.t-iterator.rest l.t-iterator.left

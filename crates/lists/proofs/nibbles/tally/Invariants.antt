@@ -7,9 +7,6 @@ use Rattle.model.specs.Formed.{times}
 use Rattle.lists.specs.Words.{nibbles, entry_of}
 use Rattle.lists.proofs.nibbles.tally.Given as goal
 
-abbrev pub invariant-loop-left : goal.invariant-loop-left
-invariant-loop-left l =
-    (length l.found ≡ 16) × ((t : ℕ) → t < 16 → entry_of l.found t + times (λ u. eqb u t) (nibbles l.left l.rest) ≡ times (λ u. eqb u t) (nibbles l.count l.word))
-
-abbrev pub decreases-loop-left : goal.decreases-loop-left
-decreases-loop-left l = l.left
+abbrev pub invariant-loop-t : goal.invariant-loop-t
+invariant-loop-t l =
+    (length l.found ≡ 16) × ((t : ℕ) → t < 16 → entry_of l.found t + times (λ u. eqb u t) (nibbles l.t-iterator.left l.t-iterator.rest) ≡ times (λ u. eqb u t) (nibbles l.count l.word))

@@ -3,14 +3,9 @@ use mathlib.Core.Path.{refl}
 use native.Mathlib.Omega.{arith}
 use lib.ListN.{length-set}
 use Rattle.plan.specs.Bytes.{thread_count, base_at}
-use Rattle.model.proofs.Loops.{fill_begin, stored}
+use Rattle.model.proofs.Loops.{stored}
 use Rattle.plan.proofs.Entries.{filled}
 use Rattle.plan.proofs.bytes.bases_of.Goals as goal
-
-pub loop-t-init : goal.loop-t-init
-loop-t-init c =
-    let bytes = c.args.bytes.now in
-    (omega arith, refl, fill_begin (base_at bytes) (thread_count bytes))
 
 pub loop-t-preserved : goal.loop-t-preserved
 loop-t-preserved c =

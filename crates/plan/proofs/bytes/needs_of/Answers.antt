@@ -1,23 +1,18 @@
 -- `needs_of` meets its contract: what is stored and what is left give the needs.
-use mathlib.Core.Path.{◌≡◌, refl, ap, ◌∙◌}
+use mathlib.Core.Path.{◌≡◌, ap, ◌∙◌}
 use Prim.Native.Nat.{◌+◌, ◌*◌}
 use native.Mathlib.Omega.{arith}
 use lib.ListN.{length-set}
 use Rattle.plan.specs.Bytes.{thread_count, needs_at}
 use Rattle.plan.specs.Words.{word}
-use Rattle.model.proofs.Loops.{fill_begin, stored}
+use Rattle.model.proofs.Loops.{stored}
 use Rattle.plan.proofs.Entries.{filled}
 use Rattle.plan.proofs.bytes.needs_of.Goals as goal
-
-pub loop-t-init : goal.loop-t-init
-loop-t-init c =
-    let bytes = c.args.bytes.now in
-    (omega arith, refl, fill_begin (needs_at bytes) (thread_count bytes))
 
 pub loop-t-preserved : goal.loop-t-preserved
 loop-t-preserved c =
     let bytes = c.args.bytes.now in
-    let e : c.word_at-w.result ≡ needs_at bytes c.loop-t.t = c.word_at-w.ensures ∙ ap (λ n. word bytes (2 + n + 2 * c.loop-t.t)) c.byte_at-threads.ensures in
+    let e : c.word_at.result ≡ needs_at bytes c.loop-t.t = c.word_at.ensures ∙ ap (λ n. word bytes (2 + n + 2 * c.loop-t.t)) c.byte_at-threads.ensures in
     (omega arith, simp length-set c.loop-t.invariant.1, stored (needs_at bytes) (thread_count bytes) c.loop-t.t c.loop-t.needs _ (omega arith) (omega arith) e c.loop-t.invariant.2)
 
 pub returns : goal.returns

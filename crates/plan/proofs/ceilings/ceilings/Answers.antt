@@ -1,28 +1,17 @@
 -- `ceilings` meets its contract: a loop that counts one thread more for all sections in each turn.
-use mathlib.Core.Path.{◌≡◌, refl, ap, sym, subst, ◌∙◌}
+use mathlib.Core.Path.{◌≡◌, ap, sym, ◌∙◌}
 use mathlib.Core.Bool.{cond}
-use mathlib.Core.List.{List, [], ◌∷◌, map}
-use Prim.Native.Nat.{ℕ, zero, suc, ◌+◌, ◌≤◌, ◌<◌, max}
+use mathlib.Core.List.{List, map}
+use Prim.Native.Nat.{ℕ, ◌+◌, ◌≤◌, ◌<◌, max}
 use native.Mathlib.Omega.{arith}
-use lib.Dec.{T, eqb, eqb→eq}
 use lib.ListN.{length, get_or}
 use lib.Seq.{ext_get_or}
-use Rattle.model.specs.Searches.{all, up_to}
+use Rattle.model.specs.Searches.{up_to}
 use Rattle.model.specs.Plan.{bit, ceiling}
-use Rattle.model.proofs.Tests.{and_left, and_right}
 use Rattle.plan.specs.declared.Plan.{Plan}
 use Rattle.plan.specs.View.{base_in, may_take_in, view}
-use Rattle.model.proofs.Loops.{TopLeft, top_begin, raised, topped, listed, length-listed}
+use Rattle.model.proofs.Loops.{TopLeft, raised, topped, listed, length-listed}
 use Rattle.plan.proofs.ceilings.ceilings.Goals as goal
-
--- an array of zeros has 0 everywhere
-zero-at : (l : List ℕ) → T (all (λ n. eqb n 0) l) → (s : ℕ) → get_or l s 0 ≡ 0
-zero-at [] t s = refl
-zero-at (n ∷ l) t zero = eqb→eq n 0 (and_left (eqb n 0) (all (λ n. eqb n 0) l) t)
-zero-at (n ∷ l) t (suc s) = zero-at l (and_right (eqb n 0) (all (λ n. eqb n 0) l) t) s
-
-abbrev zeros : List ℕ
-zeros = 0 ∷ 0 ∷ 0 ∷ 0 ∷ 0 ∷ 0 ∷ 0 ∷ 0 ∷ 0 ∷ 0 ∷ 0 ∷ 0 ∷ 0 ∷ 0 ∷ 0 ∷ 0 ∷ []
 
 -- what a turn makes of the entry of one section
 abbrev top : Plan → (t : ℕ) (tops : List ℕ) (section : ℕ) → ℕ
@@ -42,11 +31,6 @@ found : (p : Plan) (t n s : ℕ) → p.threads ≤ t → TopLeft (λ k. may_take
 unfolding ceiling
 found p t n s h inv =
     rw (length-listed (λ j. get_or p.bases j 0) p.threads) (topped (λ j. may_take_in p.threads p.needs j s) (base_in p.threads p.bases) p.threads t n h inv)
-
-pub loop-t-init : goal.loop-t-init
-loop-t-init c =
-    let p = c.args.plan in
-    (omega arith, refl, λ s h. subst (λ top. TopLeft (λ k. may_take_in p.threads p.needs k s) (base_in p.threads p.bases) p.threads 0 top) (sym (zero-at zeros tt s)) (top_begin (λ k. may_take_in p.threads p.needs k s) (base_in p.threads p.bases) p.threads))
 
 pub loop-t-preserved : goal.loop-t-preserved
 loop-t-preserved c =

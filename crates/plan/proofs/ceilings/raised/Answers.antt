@@ -1,20 +1,16 @@
 -- `raised` meets its contract: a loop that stores one section's greatest base in each turn.
-use mathlib.Core.Path.{refl, sym, ◌∙◌}
+use mathlib.Core.Path.{sym, ◌∙◌}
 use native.Mathlib.Omega.{arith}
-use borrow.Author.Rules.{rules}
 use lib.ListN.{length-set}
 use lib.Seq.{take_all}
 use Rattle.model.proofs.Loops.{stored, full}
 use Rattle.plan.proofs.ceilings.raised.Invariants.{top}
 use Rattle.plan.proofs.ceilings.raised.Goals as goal
 
-pub loop-s-init : goal.loop-s-init
-loop-s-init c = (omega arith, search rules, refl)
-
 pub loop-s-preserved : goal.loop-s-preserved
 loop-s-preserved c =
     let a = c.args in
-    let r = c.raise-top in
+    let r = c.raise in
     (omega arith, simp length-set c.loop-s.invariant.1, stored (top a.all a.base a.needs) 16 c.loop-s.s c.loop-s.next r.result (omega arith) (omega arith) r.ensures c.loop-s.invariant.2)
 
 pub returns : goal.returns

@@ -1,27 +1,16 @@
--- `all_priorities` meets its contract: a loop that asks whether all pass, without an early end.
-use mathlib.Core.Path.{sym, ◌∙◌}
-use Prim.Native.Nat.{ℕ}
-use native.Mathlib.Omega.{arith}
-use borrow.Author.Tests.{not-true, not-false}
-use lib.ListN.{get_or}
+-- `all_priorities` meets its contract: an array of sixteen is in use as a whole.
+use Rattle.std.proofs.Common.{◌≡◌, ◌&&◌, length, true, rules, tests, ap, ◌∙◌}
+use mathlib.Core.Path.{sym}
+use Rattle.std.proofs.lemmas.Iterator.{YieldsList-from_slice}
+use Rattle.std.proofs.lemmas.Iterator.Consumers.{fold_from_yields_List}
+use Rattle.model.specs.Searches.{all}
 use Rattle.plan.specs.Bytes.{is_priority}
-use Rattle.model.proofs.Loops.{all_begin, pass_kept, pass_lost, all_asked}
+use Rattle.plan.proofs.Entries.{all_folded, in_use_all}
 use Rattle.plan.proofs.questions.all_priorities.Goals as goal
-use Rattle.plan.proofs.questions.all_priorities.Goals.{else-not-is_priority, then-not-is_priority}
-
-pub loop-t-init : goal.loop-t-init
-loop-t-init c = (omega arith, all_begin is_priority (λ k. get_or c.args.bases k 0) 16)
-
-pub loop-t-preserved : goal.loop-t-preserved
-loop-t-preserved c =
-    let p = c.is_priority in
-    let entry : ℕ → ℕ = λ j. get_or c.args.bases j 0 in
-    let lost = pass_lost is_priority entry 16 c.loop-t.t c.loop-t.pass (omega arith) c.loop-t.invariant.1 c.if-not-is_priority.pass in
-    let kept = pass_kept is_priority entry 16 c.loop-t.t c.loop-t.pass (omega arith) c.loop-t.invariant.1 c.if-not-is_priority.pass in (
-      omega arith,
-      elim c.if-not-is_priority.branch [ then-not-is_priority w ↦ lost w.pass-is (sym p.ensures ∙ not-true p.result w.if-not-is_priority.true-raw) | else-not-is_priority w ↦ kept w.pass-is (sym p.ensures ∙ not-false p.result w.if-not-is_priority.false-raw) ],
-    )
 
 pub returns : goal.returns
 returns c =
-    all_asked is_priority (λ j. get_or c.args.bases j 0) 16 c.loop-t.t c.loop-t.pass (omega arith) c.loop-t.invariant.1
+    let size : length c.args.bases ≡ 16 = search rules in
+    fold_from_yields_List _ (λ pass base. pass && is_priority base) true _ c.fold.ensures.ran (YieldsList-from_slice c.args.bases cc) (λ a x b q k. search (rules, tests))
+    ∙ all_folded is_priority true c.args.bases
+    ∙ ap (all is_priority) (sym (in_use_all 16 c.args.bases size))

@@ -3,7 +3,6 @@
 use mathlib.Core.Path.{◌≡◌, sym, ◌∙◌}
 use mathlib.Core.Bool.{true, false, not}
 use Prim.Native.Nat.{◌≤◌}
-use native.Mathlib.Omega.{arith}
 use borrow.Author.Tests.{not-true, not-false}
 use lib.ListN.{get_or}
 use Rattle.model.specs.Searches.{all}
@@ -35,15 +34,9 @@ pub returns-then-not-in_range : goal.returns-then-not-in_range
 returns-then-not-in_range c =
     rw (valid_view c.args.plan, ← c.in_range.ensures, not-true c.in_range.result c.if-not-in_range.true-raw)
 
-pub bases_pass-requires : goal.bases_pass-requires
-bases_pass-requires c = omega (arith, (ranged (goal.at.bases_pass-requires c).Else-not-in_range).0)
-
 pub returns-then-not-bases_pass : goal.returns-then-not-bases_pass
 returns-then-not-bases_pass c =
     rw (valid_view c.args.plan, counted (goal.at.returns-then-not-bases_pass c).Else-not-in_range, ← c.bases_pass.ensures, not-true c.bases_pass.result c.if-not-bases_pass.true-raw)
-
-pub all_within-requires : goal.all_within-requires
-all_within-requires c = (ranged (goal.at.all_within-requires c).Else-not-in_range).1
 
 pub returns-then-all_within : goal.returns-then-all_within
 returns-then-all_within c =
@@ -54,9 +47,6 @@ returns-then-all_within c =
     elim c.if-not-all_priorities.branch [ then-not-all_priorities+else-not-bases_pass u ↦ sym u.bases_pass.ensures ∙ not-false u.bases_pass.result u.if-not-bases_pass.false-raw | else-not-all_priorities u ↦ sixteen j u.if-not-all_priorities.false-raw ] in
     rw (valid_view p, counted (goal.at.returns-then-all_within c).Else-not-in_range, bases)
     (sym (all_of_more (needs_within p.sections) (λ t. get_or p.needs t 0) p.threads 16 (ranged (goal.at.returns-then-all_within c).Else-not-in_range).0 (sym w.ensures ∙ c.if-all_within.true)))
-
-pub needs_pass-requires : goal.needs_pass-requires
-needs_pass-requires c = ranged (goal.at.needs_pass-requires c).Else-not-in_range
 
 pub returns : goal.returns
 returns c =

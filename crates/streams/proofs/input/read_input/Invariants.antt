@@ -1,9 +1,11 @@
--- `read_input` meets its contract: the bytes read so far are within the buffer, and each read that moves bytes leaves fewer to fill.
-use Rattle.std.proofs.Common.{length, ◌-◌, ◌≤◌}
+-- `read_input` meets its contract: what was read so far is what the reader gave, and each read that moves bytes leaves fewer to fill.
+use Rattle.std.proofs.Common.{◌≡◌, length, take, ◌-◌, ◌≤◌}
+use Rattle.std.specs.Io.KnownBytes.{Consumes}
 use Rattle.streams.proofs.input.read_input.Given as goal
 
 abbrev pub invariant-loop-done : goal.invariant-loop-done
-invariant-loop-done l = l.done ≤ length l.buf
+invariant-loop-done g l =
+    (l.done ≤ length l.buf) × (length l.buf ≡ length l.initial.buf) × Consumes (g.R.Read.remaining l.initial.reader) (g.R.Read.remaining l.reader) (take l.done l.buf)
 
 abbrev pub decreases-loop-done : goal.decreases-loop-done
-decreases-loop-done l = length l.initial.buf - l.done
+decreases-loop-done g l = length l.initial.buf - l.done

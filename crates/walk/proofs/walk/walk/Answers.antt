@@ -1,8 +1,13 @@
 -- `walk` meets its contract. The loop's invariant: no rule is broken yet, from the state and record reached the run goes on to where it ends, and the
 -- running place is that record's.
 -- Each way through the loop is one of the machine's answers.
-use mathlib.Core.Path.{refl, ap, sym, subst, ◌∙◌}
+use mathlib.Core.Path.{◌≡◌, refl, ap, sym, subst, ◌∙◌}
+use mathlib.Core.Bool.{Bool, true, false, not}
+use Prim.Native.Nat.{ℕ, ◌≤◌, ◌<◌, max}
+use lib.Dec.{leb}
+use Rattle.std.proofs.lemmas.Bool.{leb-true, leb-false}
 use native.Mathlib.Omega.{arith}
+use Rattle.std.specs.Prelude.{is_ok}
 use Rattle.machine.specs.declared.reporting.Reporting.{Reporting}
 use Rattle.machine.specs.View.{view}
 use Rattle.machine.specs.Calls.{Apart, Answers, Closes}
@@ -13,13 +18,13 @@ use Rattle.walk.specs.Clauses.{WalkEnds}
 use Rattle.walk.proofs.Walking.{Walking, as_came, as_opened, walk_begins, walk_ends, walk_within, walk_breaks, walk_moves}
 use Rattle.walk.proofs.Turning as turn
 use Rattle.walk.proofs.walk.walk.Goals as goal
-use Rattle.walk.proofs.walk.walk.Goals.{else-loop-i-test, then-loop-i-test+then-c-ne0, At-loop-i, In-loop-i, After-entry_at-e, Joined-hears, then-hears, else-hears+then-e-eq7+then-is_quiet, else-hears+else-e-eq7+in-Create, else-hears+else-e-eq7+in-Delay, else-hears+else-e-eq7+in-Relinquish, else-hears+else-e-eq7+in-End, else-hears+else-e-eq7+in-Take, else-hears+else-e-eq7+in-Give, else-hears+else-e-eq7+in-Tick, else-hears+else-e-eq7+in-Arm, else-hears+else-e-eq7+in-Start, else-hears+else-e-eq7+in-Period, else-hears+else-e-eq7+in-Cancel, else-hears+else-e-eq7+in-Report}
+use Rattle.walk.proofs.walk.walk.Goals.{At-loop-i, In-loop-i, After-entry_at-e, Joined-hears, then-hears, else-hears+then-e-eq7+then-is_quiet, else-hears+else-e-eq7+in-Create, else-hears+else-e-eq7+in-Delay, else-hears+else-e-eq7+in-Relinquish, else-hears+else-e-eq7+in-End, else-hears+else-e-eq7+in-Take, else-hears+else-e-eq7+in-Give, else-hears+else-e-eq7+in-Tick, else-hears+else-e-eq7+in-Arm, else-hears+else-e-eq7+in-Start, else-hears+else-e-eq7+in-Period, else-hears+else-e-eq7+in-Cancel, else-hears+else-e-eq7+in-Report}
 
 pub loop-i-init : goal.loop-i-init
 loop-i-init c =
     let a = c.args in
     let e = c.opened-c.ensures in
-    (ap (λ (x : Reporting). x.rule) e, as_opened a.s e (walk_begins c.requires.0 e), c.requires.1)
+    (ap (λ (x : Reporting). is_ok x.rule) e, as_opened a.s e (walk_begins c.requires.0 e), c.requires.1, λ h. refl)
 
 -- where the loop stands, as a walk from the state that came
 standing : (l : goal.At-loop-i) → (let a = l.args in Walking a.s.machine.plan (view a.s) a.bytes.now a.from a.to l.loop-i.c l.loop-i.i)
@@ -113,32 +118,36 @@ overflow_add-running c =
 
 pub loop-i-preserved : goal.loop-i-preserved
 loop-i-preserved c =
-    let stands = standing (goal.at.loop-i-preserved c).At-loop-i in (
-      c.if-c-ne0.false,
-      as_opened c.args.s c.opened-c.ensures (walk_moves c.requires.0 stands c.loop-i-test.true (answered (goal.at.loop-i-preserved c).Joined-hears stands) c.if-c-ne0.false),
+    let stands = standing (goal.at.loop-i-preserved c).At-loop-i in
+    let passes = c.is_err.ensures.negation ∙ ap not c.if-is_err.false in (
+      passes,
+      as_opened c.args.s c.opened-c.ensures (walk_moves c.requires.0 stands c.loop-i-test.true (answered (goal.at.loop-i-preserved c).Joined-hears stands) passes),
       running_next (record_count c.args.bytes.now) c.loop-i.i c.loop-i.invariant.2,
+      λ h. omega arith,
     )
 
 pub closed-requires : goal.closed-requires
-closed-requires c =
-    let l = (goal.at.closed-requires c).At-loop-i in
-    let stands = standing l in
-    elim c.loop-i-test.branch [
-      | else-loop-i-test w ↦ subst Apart (sym w.c-is) stands.stands.apart'
-      | then-loop-i-test+then-c-ne0 w ↦ subst Apart (sym w.c-is) (answered (record { before = record { before = record { before = record { before = record { before = l.before; loop-i-test = w.loop-i-test }; entry_at-e = w.entry_at-e }; hears = w.hears }; if-hears = w.if-hears }; type_inv = record { bytes = l.type_inv.bytes } }) stands).stands'.apart'
-    ]
+closed-requires c = let stands = standing (goal.at.closed-requires c).At-loop-i in (answered (goal.at.closed-requires c).Joined-hears stands).stands'.apart'
+
+pub closed-requires-2 : goal.closed-requires-2
+closed-requires-2 c = (standing (goal.at.closed-requires-2 c).At-loop-i).stands.apart'
+
+pub returns-then-is_err : goal.returns-then-is_err
+returns-then-is_err c =
+    let stands = standing (goal.at.returns-then-is_err c).At-loop-i in
+    walk_breaks c.requires.0 stands c.loop-i-test.true (answered (goal.at.returns-then-is_err c).Joined-hears stands) (c.is_err.ensures.negation ∙ ap not c.if-is_err.true) c.closed.ensures
+
+-- where no record breaks a rule, the walk ends behind the last one, or where it began if there is none
+at_end : (from to i m : ℕ) → from ≤ i → (from ≤ to → i ≤ to) → to ≤ i → (to ≤ from → i ≡ from) → m ≡ max to from → i ≡ m
+at_end from to i m b h e n k = go (leb from to) refl
+  where
+    go : (t : Bool) → leb from to ≡ t → i ≡ m
+    go true p = let r : i ≤ to = h (leb-true from to p) in omega arith
+    go false p = let w : to < from = leb-false from to p in let r : i ≡ from = n (omega arith) in omega arith
 
 pub returns : goal.returns
 returns c =
-    let l = (goal.at.returns c).At-loop-i in
-    let stands = standing l in
     let a = c.args in
-    let s = c.closed.result in
-    elim c.loop-i-test.branch [
-      | else-loop-i-test w ↦
-          subst (λ (x : Reporting). WalkEnds (record { state = s; at = c.loop-i.i; rule = x.rule }) a.s a.bytes.now a.from a.to) (sym w.c-is)
-          (walk_ends c.requires.0 stands c.loop-i.invariant.0 w.loop-i-test.false (subst (Closes s) w.c-is c.closed.ensures))
-      | then-loop-i-test+then-c-ne0 w ↦
-          subst (λ (x : Reporting). WalkEnds (record { state = s; at = c.loop-i.i; rule = x.rule }) a.s a.bytes.now a.from a.to) (sym w.c-is)
-          (walk_breaks c.requires.0 stands w.loop-i-test.true (answered (record { before = record { before = record { before = record { before = record { before = l.before; loop-i-test = w.loop-i-test }; entry_at-e = w.entry_at-e }; hears = w.hears }; if-hears = w.if-hears }; type_inv = record { bytes = l.type_inv.bytes } }) stands) w.if-c-ne0.true (subst (Closes s) w.c-is c.closed.ensures))
-    ]
+    let reached : c.loop-i.i ≡ c.max.result = at_end c.args.from c.args.to c.loop-i.i _ c.loop-i.auto.i c.loop-i.auto.i-end c.loop-i-test.false c.loop-i.invariant.3 c.max.ensures in
+    subst (λ n. WalkEnds (record { state = c.closed-2.result; at = n; rule = c.loop-i.c.rule }) a.s a.bytes.now a.from a.to) reached
+    (walk_ends c.requires.0 (standing (goal.at.returns c).At-loop-i) c.loop-i.invariant.0 c.loop-i-test.false c.closed-2.ensures)

@@ -16,7 +16,7 @@ use Rattle.clock.specs.declared.timers.Timers.{Timers}
 use Rattle.clock.specs.View.{slot_of, view}
 use Rattle.clock.specs.Clauses.{Comes}
 use Rattle.clock.proofs.Sized.{expiries_size, periods_size}
-use Rattle.clock.proofs.Slots.{slots_set}
+use Rattle.clock.proofs.Slots.{slots_set, stored_slot}
 use Rattle.clock.proofs.Stages.{after_start_lem, timer_known}
 use Rattle.clock.proofs.timers.Timers.armed.Goals as goal
 use Rattle.clock.proofs.timers.Timers.armed.Goals.{Start, Then-admitted, else-admitted, then-admitted}
@@ -60,8 +60,9 @@ returns c =
     let t = a.self in
     let to = set_timer (Period a.period) a.now.0 (view t) in
     elim c.if-admitted.branch [
-      | then-admitted w ↦ alike w.a-is w.expiries-is w.periods-is
-          ∙ stored t a.now.0 a.period c.requires.0 w.first_expiry.result (expiries_size t c.well_formed.0) (periods_size t c.well_formed.0) w.first_expiry.ensures
+      | then-admitted w ↦ let kept = ap (λ (e : Tick). slot_of e.0 a.period) w.unwrap_or.ensures ∙ stored_slot w.first_expiry.result a.period a.now.0 w.first_expiry.ensures.later ∙ w.first_expiry.ensures.slot in
+          alike w.a-is w.expiries-is w.periods-is
+          ∙ stored t a.now.0 a.period c.requires.0 w.unwrap_or.result (expiries_size t c.well_formed.0) (periods_size t c.well_formed.0) kept
           ∙ sym (ap (λ b. cond b to (view t)) w.if-admitted.true)
       | else-admitted w ↦ alike w.a-is w.expiries-is w.periods-is ∙ sym (ap (λ b. cond b to (view t)) w.if-admitted.false)
     ]

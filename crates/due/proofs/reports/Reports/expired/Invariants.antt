@@ -2,7 +2,7 @@
 use mathlib.Core.Path.{◌≡◌}
 use mathlib.Core.Bool.{Bool, not, ◌&&◌}
 use mathlib.Core.List.{List}
-use Prim.Native.Nat.{ℕ, ◌-◌, ◌≤◌}
+use Prim.Native.Nat.{ℕ, ◌≤◌}
 use lib.ListN.{drop}
 use Rattle.model.specs.Searches.{filter, up_to}
 use Rattle.model.specs.Timers.{slot, expires_at, owes_expire}
@@ -22,7 +22,4 @@ module _ (rs : Reports) (given : ℕ) (timers : Timers) (number : ℕ) where
   Below out i = out ≡ filter ends (up_to i)
 
 abbrev pub invariant-loop-i : goal.invariant-loop-i
-invariant-loop-i l = (l.out.count ≤ l.i) × (l.i ≤ 8) × Below l.self l.given l.timers l.number.0 (queued l.out) l.i
-
-abbrev pub decreases-loop-i : goal.decreases-loop-i
-decreases-loop-i l = 8 - l.i
+invariant-loop-i l = (l.out.count ≤ l.i) × Below l.fn.self l.given l.timers l.number.0 (queued l.out) l.i

@@ -1,38 +1,52 @@
 -- `Reports::joined` meets its contract: those stored so far, and the reports of those left, are all.
-use mathlib.Core.Path.{refl, ap, sym, ◌∙◌}
-use mathlib.Core.List.{◌∷◌, [], ◌++◌, map, append-nil, append_assoc}
-use Prim.Native.Nat.{◌%◌, ◌/◌, ◌-◌}
+use mathlib.Core.Path.{◌≡◌, ap, sym, ◌∙◌}
+use mathlib.Core.List.{[], ◌∷◌, ◌++◌, map, append-nil, append_assoc}
 use native.Mathlib.Omega.{arith}
-use lib.ListN.{length-set}
+use lib.ListN.{length, length-set}
 use Rattle.model.proofs.Loops.{stored_next}
 use Rattle.lists.specs.Words.{nibbles}
-use Rattle.lists.proofs.Laws.{first, ended}
-use Rattle.due.specs.Lists.{report_of, no_report, report_by, owed}
+use Rattle.lists.specs.Lists.{queued}
+use Rattle.lists.proofs.Laws.{length-queued}
+use Rattle.due.specs.Lists.{kind_number, report_of, no_report, report_by, owed}
 use Rattle.due.proofs.Sized.{reports_size}
+use Rattle.due.proofs.reports.Reports.joined.Invariants.{held}
 use Rattle.due.proofs.reports.Reports.joined.Goals as goal
-use Rattle.due.proofs.reports.Reports.joined.Goals.{In-loop-left, Start}
 
-pub loop-left-init : goal.loop-left-init
-loop-left-init c = (c.requires.1, reports_size c.args.self c.well_formed.0, refl)
+pub loop-t-init : goal.loop-t-init
+loop-t-init c =
+    let a = c.args in
+    let s = c.into_iter-t-iterator in
+    let e : nibbles s.result.left s.result.rest ≡ queued a.who = rw s.ensures.into_iter_gives c.iter-t-items.ensures in
+    record {
+      room = omega (arith, ap length e, length-queued a.who, c.requires.1);
+      sized = reports_size a.self c.well_formed.0;
+      all = ap (λ l. owed a.self ++ map (report_by (kind_number a.kind)) l) e;
+    }
 
-pub of-r-requires : goal.of-r-requires
-of-r-requires c = tt
+pub offset_bounds-items-n : goal.offset_bounds-items-n
+offset_bounds-items-n c = record { fits = omega (arith, c.loop-t.invariant.room) }
 
-pub loop-left-preserved : goal.loop-left-preserved
-loop-left-preserved c =
-    let l = c.loop-left in
-    let kind = c.args.kind in
-    let t = l.rest % 16 in
-    let more = nibbles (l.left - 1) (l.rest / 16) in
-    let stored = stored_next report_of no_report c.of-r.result l.items l.n (omega (arith, l.invariant.0, l.invariant.1, c.loop-left-test.true)) ∙ ap (λ r. owed (record { items = l.items; count = l.n }) ++ (report_of r ∷ [])) c.of-r.ensures in (
-      omega (arith, l.invariant.0, c.loop-left-test.true),
-      length-set l.items l.n c.of-r.result ∙ l.invariant.1,
-      ap (λ k. k ++ map (report_by kind) more) stored ∙ append_assoc (owed (record { items = l.items; count = l.n })) (report_by kind t ∷ []) (map (report_by kind) more)
-          ∙ ap (λ k. owed (record { items = l.items; count = l.n }) ++ map (report_by kind) k) (sym (first l.left l.rest c.loop-left-test.true)) ∙ l.invariant.2,
-    )
+pub loop-t-preserved : goal.loop-t-preserved
+loop-t-preserved c =
+    let l = c.loop-t in
+    let v = l.invariant in
+    let by = report_by (kind_number c.args.kind) in
+    let t = c.in-Some.t in
+    let more = nibbles c.next.new.self.left c.next.new.self.rest in
+    let s = c.in-Some.ensures.steps in
+    let stored =
+    stored_next report_of no_report c.of-r.result l.items l.n (omega (arith, v.room, v.sized, ap length s))
+    ∙ ap (λ r. held l.items l.n ++ (report_of r ∷ [])) c.of-r.ensures in
+    record {
+      room = omega (arith, v.room, ap length s);
+      sized = length-set l.items l.n c.of-r.result ∙ v.sized;
+      all = ap (λ k. k ++ map by more) stored ∙ append_assoc (held l.items l.n) (by t ∷ []) (map by more)
+          ∙ ap (λ k. held l.items l.n ++ map by k) (sym s) ∙ v.all;
+    }
 
 pub returns : goal.returns
 returns c =
-    let l = c.loop-left in
-    let kind = c.args.kind in
-    sym (append-nil (owed (record { items = l.items; count = l.n }))) ∙ ap (λ k. owed (record { items = l.items; count = l.n }) ++ map (report_by kind) k) (sym (ended l.left l.rest c.loop-left-test.false)) ∙ l.invariant.2
+    let l = c.loop-t in
+    sym (append-nil (held l.items l.n))
+    ∙ ap (λ k. held l.items l.n ++ map (report_by (kind_number c.args.kind)) k) (sym c.in-None.ensures.steps.0)
+    ∙ l.invariant.all

@@ -1,23 +1,13 @@
--- `Queue::below` meets its contract: whether all that are left pass is whether all pass.
-use mathlib.Core.Path.{refl}
-use Prim.Native.Nat.{◌%◌}
-use native.Mathlib.Omega.{arith}
-use borrow.Author.Tests.{lt-ltb, le-ltb}
-use Rattle.lists.proofs.Queues.{first, ended}
+-- `Queue::below` meets its contract: what `all` returns is whether all that the queue yields pass.
+use mathlib.Core.Path.{ap, ◌∙◌}
+use borrow.Author.Rules.{rules}
+use lib.Dec.{ltb}
+use Rattle.model.specs.Formed.{are_threads}
+use Rattle.lists.specs.Words.{nibbles}
+use Rattle.lists.proofs.Chains.{all_of}
 use Rattle.lists.proofs.queue.Queue.below.Goals as goal
-use Rattle.lists.proofs.queue.Queue.below.Goals.{At-loop-left}
-
-pub loop-left-init : goal.loop-left-init
-loop-left-init c = refl
-
-pub returns-then-threads-t : goal.returns-then-threads-t
-returns-then-threads-t c =
-    rw (first c.loop-left.left c.loop-left.rest (omega arith), le-ltb (c.loop-left.rest % 16) c.args.threads c.if-threads-t.true) at c.loop-left.invariant
-
-pub loop-left-preserved : goal.loop-left-preserved
-loop-left-preserved c =
-    rw (first c.loop-left.left c.loop-left.rest (omega arith), lt-ltb (c.loop-left.rest % 16) c.args.threads c.if-threads-t.false) at c.loop-left.invariant
 
 pub returns : goal.returns
 returns c =
-    rw (ended c.loop-left.left c.loop-left.rest c.loop-left-test.false) at c.loop-left.invariant
+    all_of (λ t. t) (λ s. nibbles s.left s.rest) (λ t. ltb t c.args.threads) c.all.ensures.ran (λ x b h k. search rules)
+    ∙ ap (are_threads c.args.threads) c.iter.ensures

@@ -1,36 +1,39 @@
 -- `Queue::others` meets its contract: those kept so far, and those left that stay, are all that stay.
-use mathlib.Core.Path.{refl, sym, ◌∙◌}
-use mathlib.Core.List.{append-nil}
-use Prim.Native.Nat.{◌%◌}
+use mathlib.Core.Path.{◌≡◌, ap}
+use mathlib.Core.Bool.{not}
+use mathlib.Core.List.{◌∷◌, ◌++◌, append-nil}
 use native.Mathlib.Omega.{arith}
 use borrow.Author.Tests.{eq-eqb, ne_eqb}
+use lib.Dec.{eqb}
+use lib.ListN.{length, length-append}
 use lib.Seq.{append_snoc}
+use Rattle.model.specs.Searches.{without}
 use Rattle.lists.specs.Words.{nibbles}
-use Rattle.lists.proofs.Words.{set-behind}
-use Rattle.lists.proofs.Queues.{first, ended}
+use Rattle.lists.specs.Lists.{queued}
+use Rattle.lists.proofs.Holdings.{times_bound}
+use Rattle.lists.proofs.Queues.{taken_small}
+use Rattle.lists.proofs.Laws.{length-queued}
 use Rattle.lists.proofs.queue.Queue.others.Goals as goal
-use Rattle.lists.proofs.queue.Queue.others.Goals.{At-loop-left}
+use Rattle.lists.proofs.queue.Queue.others.Goals.{Then-t-thread}
 
-pub loop-left-init : goal.loop-left-init
-loop-left-init c = (omega arith, refl)
+-- where the thread that a turn takes stays
+stays : (c : goal.Then-t-thread) → queued c.loop-t.kept ++ (c.in-Some.t ∷ without c.args.thread (nibbles c.next.new.self.left c.next.new.self.rest)) ≡ without c.args.thread (queued c.args.self)
+stays c = rw (c.in-Some.ensures.steps, ne_eqb c.in-Some.t c.args.thread c.if-t-thread.true) at c.loop-t.invariant
 
-pub loop-left-preserved-then-t-thread : goal.loop-left-preserved-then-t-thread
-loop-left-preserved-then-t-thread c =
-    let l = c.loop-left in
-    let t = l.rest % 16 in (
-      omega arith,
-      rw (c.with_nibble-items.ensures, set-behind l.n l.items t (omega arith), append_snoc)
-          (rw (first l.left l.rest (omega arith), ne_eqb t c.args.thread c.if-t-thread.true) at l.invariant.1),
+pub push-kept-requires : goal.push-kept-requires
+push-kept-requires c =
+    let q = c.args.self in (
+      omega (arith, c.requires, length-queued q, length-queued c.loop-t.kept, simp length-append at (ap length (stays c)), times_bound (λ u. not (eqb u c.args.thread)) (queued q)),
+      taken_small _ _ c.in-Some.ensures.steps,
     )
 
-pub loop-left-preserved : goal.loop-left-preserved
-loop-left-preserved c =
-    let l = c.loop-left in (
-      omega arith,
-      rw (first l.left l.rest (omega arith), eq-eqb (l.rest % 16) c.args.thread c.if-t-thread.false) at l.invariant.1,
-    )
+pub loop-t-preserved-then-t-thread : goal.loop-t-preserved-then-t-thread
+loop-t-preserved-then-t-thread c =
+    rw (c.push-kept.ensures, append_snoc) (stays (goal.at.loop-t-preserved-then-t-thread c).Then-t-thread)
+
+pub loop-t-preserved : goal.loop-t-preserved
+loop-t-preserved c =
+    rw (c.in-Some.ensures.steps, eq-eqb c.in-Some.t c.args.thread c.if-t-thread.false) at c.loop-t.invariant
 
 pub returns : goal.returns
-returns c =
-    let l = c.loop-left in
-    sym (append-nil (nibbles l.n l.items)) ∙ (rw (ended l.left l.rest c.loop-left-test.false) at l.invariant.1)
+returns c = rw (c.in-None.ensures.steps.0, append-nil) at c.loop-t.invariant

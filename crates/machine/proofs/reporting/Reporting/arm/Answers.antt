@@ -1,6 +1,6 @@
 -- `arm` meets its contract: an arming has begun.
 use mathlib.Core.Path.{◌∙◌}
-use lib.Dec.{eqb}
+use Rattle.std.specs.Prelude.{is_ok}
 use Rattle.model.specs.Records as records
 use Rattle.machine.proofs.Asking.{arm_rule}
 use Rattle.machine.proofs.Outcomes.{caller_asked}
@@ -24,4 +24,4 @@ pub returns : goal.returns
 returns c =
     let i = c.args.timer in
     c.timed.ensures (records.Arm i)
-    (record { sets = c.requires; rule' = c.run_rule-rule.ensures ∙ arm_rule (caller_asked c.requires) i; timers' = c.begun.ensures; made' = no_late c.none.ensures (eqb c.run_rule-rule.result 0) })
+    (record { sets = c.requires; rule' = c.run_rule-rule.ensures ∙ arm_rule (caller_asked c.requires) i; timers' = rw c.is_ok.ensures.value at c.begun.ensures; made' = no_late c.none.ensures (is_ok c.run_rule-rule.result) })

@@ -1,6 +1,7 @@
 -- `cancel` meets its contract: a timer that is armed is armed no longer.
 use mathlib.Core.Path.{◌∙◌}
-use lib.Dec.{eqb, ltb→lt}
+use lib.Dec.{ltb→lt}
+use Rattle.std.specs.Prelude.{is_ok}
 use Rattle.model.specs.Records as records
 use Rattle.machine.proofs.Asking.{cancel_rule_lem}
 use Rattle.machine.proofs.Outcomes.{caller_asked}
@@ -24,4 +25,4 @@ pub returns : goal.returns
 returns c =
     let i = c.args.timer in
     c.timed.ensures (records.Cancel i)
-    (record { sets = c.requires; rule' = c.cancel_rule-rule.ensures ∙ cancel_rule_lem (caller_asked c.requires) i; timers' = c.cancelled.ensures; made' = no_late c.none.ensures (eqb c.cancel_rule-rule.result 0) })
+    (record { sets = c.requires; rule' = c.cancel_rule-rule.ensures ∙ cancel_rule_lem (caller_asked c.requires) i; timers' = rw c.is_ok.ensures.value at c.cancelled.ensures; made' = no_late c.none.ensures (is_ok c.cancel_rule-rule.result) })

@@ -10,9 +10,10 @@ use Rattle.model.specs.Calls.{delay}
 use Rattle.machine.specs.declared.Machine.{Machine}
 use Rattle.machine.specs.declared.slots.Slots.{Slots}
 use Rattle.due.specs.declared.reports.Reports.{Reports}
-use Rattle.machine.specs.View.{conditions_of, reports_in}
+use Rattle.machine.specs.View.{conditions_of}
 use Rattle.machine.specs.Rules.{free_rule}
 use Rattle.due.specs.Lists.{owed}
+use Rattle.machine.proofs.Answered.{zero_of}
 use Rattle.machine.proofs.Admitted.{Asked, Runs, Makes, admits, refuses, by}
 use Rattle.machine.proofs.Asking.{delay_rule, delays}
 use Rattle.machine.proofs.Facts.{facts}
@@ -20,11 +21,11 @@ use Rattle.machine.proofs.Sized.{slept_size}
 use Rattle.machine.proofs.Room.{queue_once_lem, caller_fits, delays_room}
 use Rattle.machine.proofs.Chosen.{listed}
 use Rattle.machine.proofs.Views.{sleeps_seen}
-use Rattle.machine.proofs.Meets.{alike}
+use Rattle.machine.proofs.Meets.{alike, array_of, stores_own}
 use Rattle.machine.proofs.Quieted.{unknown_quiet}
 use Rattle.machine.proofs.Outcomes.{caller_asked, short_wait, call_settles, call_answers}
 use Rattle.machine.proofs.reporting.Reporting.delay.Goals as goal
-use Rattle.machine.proofs.reporting.Reporting.delay.Goals.{After-chosen-who, After-making-c, After-next-until, After-placed-arg-1, After-plus-arg-1, After-plus-over, Joined-rule-eq0, Then-rule-eq0, else-rule-eq0, then-rule-eq0}
+use Rattle.machine.proofs.reporting.Reporting.delay.Goals.{After-next-until, After-placed-arg-1, After-plus-arg-1, After-plus-over, Joined-is_ok, Then-is_ok, else-is_ok, then-is_ok}
 
 -- where the rule's answer is 0, the caller is the chosen thread
 admitted : {m : Machine} {x rule : ℕ} → Asked m x 0 → (n : ℕ) → rule ≡ free_rule m.holds x → rule ≡ 0 → Runs m x
@@ -40,21 +41,21 @@ pub next-until-requires : goal.next-until-requires
 next-until-requires c = let a = c.requires in omega (arith, c.plus-over.ensures, (facts (caller_asked a).formed).tick, short_wait a)
 
 -- where no rule is broken the caller is a thread
-fits : (c : goal.Then-rule-eq0) → c.args.self.machine.reported < 16
+fits : (c : goal.Then-is_ok) → c.args.self.machine.reported < 16
 fits c =
-    caller_fits (admitted (caller_asked c.requires) c.args.wait.0 c.free_rule-rule.ensures c.if-rule-eq0.true)
+    caller_fits (admitted (caller_asked c.requires) c.args.wait.0 c.free_rule-rule.ensures (zero_of c.free_rule-rule.result (sym c.is_ok.ensures.value ∙ c.if-is_ok.true)))
 
 pub placed-slots-requires : goal.placed-slots-requires
-placed-slots-requires c = (fits (goal.at.placed-slots-requires c).Then-rule-eq0, omega arith)
+placed-slots-requires c = fits (goal.at.placed-slots-requires c).Then-is_ok
 
 pub overflow_cast-wakes : goal.overflow_cast-wakes
-overflow_cast-wakes c = omega (arith, fits (goal.at.overflow_cast-wakes c).Then-rule-eq0)
+overflow_cast-wakes c = omega (arith, fits (goal.at.overflow_cast-wakes c).Then-is_ok)
 
 pub offset_bounds-wakes-caller : goal.offset_bounds-wakes-caller
-offset_bounds-wakes-caller c = record { fits = omega (arith, fits (goal.at.offset_bounds-wakes-caller c).Then-rule-eq0) }
+offset_bounds-wakes-caller c = record { fits = omega (arith, fits (goal.at.offset_bounds-wakes-caller c).Then-is_ok) }
 
 pub bounds-wakes-caller : goal.bounds-wakes-caller
-bounds-wakes-caller c = fits (goal.at.bounds-wakes-caller c).Then-rule-eq0
+bounds-wakes-caller c = fits (goal.at.bounds-wakes-caller c).Then-is_ok
 
 pub without-queue-requires : goal.without-queue-requires
 without-queue-requires c =
@@ -62,11 +63,11 @@ without-queue-requires c =
 
 pub push-delays-requires : goal.push-delays-requires
 push-delays-requires c =
-    let r = admitted (caller_asked c.requires) c.args.wait.0 c.free_rule-rule.ensures c.if-rule-eq0.true in
+    let r = admitted (caller_asked c.requires) c.args.wait.0 c.free_rule-rule.ensures (zero_of c.free_rule-rule.result (sym c.is_ok.ensures.value ∙ c.if-is_ok.true)) in
     (delays_room r, caller_fits r)
 
 -- what is left before the Switch: the caller may sleep, or a rule is broken. Last in each way stands the machine.
-made : (c : goal.Joined-rule-eq0) {rs : Reports} → owed rs ≡ [] → Makes c.if-rule-eq0.m rs c.free_rule-rule.result c.args.self.machine (records.Delay c.args.wait.0)
+made : (c : goal.Joined-is_ok) {rs : Reports} → owed rs ≡ [] → Makes c.if-is_ok.m rs c.free_rule-rule.result c.args.self.machine (records.Delay c.args.wait.0)
 unfolding delay
 made c none' =
     let m = c.args.self.machine in
@@ -74,9 +75,9 @@ made c none' =
     let n = c.args.wait.0 in
     let a = caller_asked c.requires in
     let e = c.free_rule-rule.ensures ∙ delay_rule a n in
-    elim c.if-rule-eq0.branch [
-      | then-rule-eq0 w ↦ let r = admitted a n c.free_rule-rule.ensures w.if-rule-eq0.true in
-          admits e (by r (λ y. delay y n)) w.if-rule-eq0.true w.m-is refl
+    elim c.if-is_ok.branch [
+      | then-is_ok w ↦ let r = admitted a n c.free_rule-rule.ensures (zero_of c.free_rule-rule.result (sym c.is_ok.ensures.value ∙ w.if-is_ok.true)) in
+          admits e (by r (λ y. delay y n)) (sym c.is_ok.ensures.value ∙ w.if-is_ok.true) w.m-is refl
           (record {
             plan' = refl;
             keeps = c.requires.asks.stands.keeps;
@@ -92,25 +93,17 @@ made c none' =
                 none'
                 refl;
           })
-      | else-rule-eq0 w ↦ refuses e c.requires.asks.stands.keeps w.if-rule-eq0.false w.m-is refl none'
+      | else-is_ok w ↦ refuses e c.requires.asks.stands.keeps (sym c.is_ok.ensures.value ∙ w.if-is_ok.false) w.m-is refl none'
     ]
 
 pub none-requires : goal.none-requires
 none-requires c = tt
 
-pub making-c-requires : goal.making-c-requires
-making-c-requires c = tt
-
--- and no report
-made_none : (c : goal.After-making-c) → (Makes c.if-rule-eq0.m (reports_in c.making-c.result) c.free_rule-rule.result c.args.self.machine (records.Delay c.args.wait.0))
-made_none c = made c.before.before (c.making-c.ensures.stored [] c.none.ensures)
-
-pub chosen-who-requires : goal.chosen-who-requires
-chosen-who-requires c = (call_settles c.requires (made_none (goal.at.chosen-who-requires c).After-making-c)).chooses
-
-pub owing-requires : goal.owing-requires
-owing-requires c = (call_settles c.requires (made_none (goal.at.owing-requires c).After-making-c)).room
+pub settled-requires : goal.settled-requires
+settled-requires c =
+    let s = call_settles c.requires (made (goal.at.settled-requires c).Joined-is_ok {rs = array_of c.none.result} ((stores_own c.none.result).stored [] c.none.ensures)) in (s.chooses, s.room)
 
 pub returns : goal.returns
 returns c =
-    rw c.owing.ensures (record { answers = call_answers c.requires (made_none (goal.at.returns c).After-making-c) c.chosen-who.ensures (unknown_quiet c.if-rule-eq0.m); quiet' = refl })
+    let j = (goal.at.returns c).Joined-is_ok in
+    rw c.settled.ensures.owed (record { answers = call_answers c.requires (made j (c.settled.ensures.stored.stored [] c.none.ensures)) refl (unknown_quiet j.if-is_ok.m); quiet' = refl })

@@ -14,13 +14,16 @@ use Rattle.model.specs.State.{State, Hold, hold, is_hold, condition, arrive, lea
 use Rattle.model.specs.Calls.{wanted, above_all, heir, give}
 use Rattle.model.proofs.Searches.{greatest_is}
 use Rattle.plan.specs.View.{base_in}
+use Rattle.due.specs.declared.reports.Reports.{Reports}
+use Rattle.due.specs.Lists.{Stores}
 use Rattle.machine.specs.declared.Machine.{Machine}
 use Rattle.lists.specs.Words.{nibble, entry_of}
 use Rattle.lists.specs.Lists.{numbered, queued, held}
 use Rattle.lists.specs.Choice.{inherits_in}
 use Rattle.machine.specs.declared.slots.Slots.{Slots}
-use Rattle.machine.specs.View.{conditions_of, plan_of, idle, reports_in}
+use Rattle.machine.specs.View.{conditions_of, plan_of, idle}
 use Rattle.machine.specs.Clauses.{Ceilings}
+use Rattle.machine.proofs.Answered.{zero_of}
 use Rattle.machine.proofs.Admitted.{Gives, Makes, admits, refuses, by}
 use Rattle.machine.proofs.Asking.{give_rule_lem, gives}
 use Rattle.machine.proofs.Conditions.{wants_it}
@@ -31,10 +34,10 @@ use Rattle.machine.proofs.Views.{condition_at, placed_seen}
 use Rattle.machine.proofs.Room.{waits_once_lem, waiting_known, waiting_fits, waiting_room, held_once_lem, give_room}
 use Rattle.machine.proofs.Keeping.{keeps_walked, keeps_gained}
 use Rattle.machine.proofs.Chosen.{ceiling_in_lem, ceilings_are, listed, above_is, heir_same, inherits_same, waits_positive}
-use Rattle.machine.proofs.Meets.{alike, told}
+use Rattle.machine.proofs.Meets.{alike, told, stores_own}
 use Rattle.machine.proofs.Outcomes.{give_asked, call_settles, quiet_answers}
 use Rattle.machine.proofs.reporting.Reporting.give.Goals as goal
-use Rattle.machine.proofs.reporting.Reporting.give.Goals.{After-ceiling-1, After-chosen-who, After-find_heir-arg-1, After-find_heir-heir, After-give_rule-rule, After-m-1, After-making-c, After-owing-arg-1, After-push-holds, After-wanted-arg-1, After-wanted-wanted, After-without-arg-1, After-without-holds, Joined-rule-eq0, Start, Then-heir, Then-rule-eq0, else-heir+else-t, else-heir+then-t, else-rule-eq0, then-heir, then-rule-eq0}
+use Rattle.machine.proofs.reporting.Reporting.give.Goals.{After-ceiling-1, After-find_heir-arg-1, After-find_heir-heir, After-give_rule-rule, After-m-1, After-push-holds, After-wanted-arg-1, After-wanted-wanted, After-without-arg-1, After-without-holds, Joined-is_ok, Start, Then-heir, Then-is_ok, else-heir+else-t, else-heir+then-t, else-is_ok, then-heir, then-is_ok}
 
 -- a number other than 255 is a thread's
 named : (o : Option ℕ) (who : ℕ) → who ≡ numbered o → (who ≡ 255 → ⊥) → o ≡ some who
@@ -119,8 +122,8 @@ pub give_rule-rule-requires : goal.give_rule-rule-requires
 give_rule-rule-requires c = (listed (known (goal.at.give_rule-rule-requires c).Start)).counts.holds'
 
 -- where no rule is broken, what the rules of Give say holds
-granted : (c : goal.Then-rule-eq0) → (Gives c.args.self.machine c.args.self.machine.reported c.args.section)
-granted c = let a = give_asked c.requires.calls in gives a (sym (give_rule_lem a) ∙ sym c.give_rule-rule.ensures ∙ c.if-rule-eq0.true)
+granted : (c : goal.Then-is_ok) → (Gives c.args.self.machine c.args.self.machine.reported c.args.section)
+granted c = let a = give_asked c.requires.calls in gives a (sym (give_rule_lem a) ∙ sym c.give_rule-rule.ensures ∙ zero_of c.give_rule-rule.result (sym c.is_ok.ensures.value ∙ c.if-is_ok.true))
 
 pub without-holds-requires : goal.without-holds-requires
 without-holds-requires c =
@@ -129,7 +132,7 @@ without-holds-requires c =
 
 -- the hold that ended leaves room for another
 left-room : (c : goal.After-without-holds) → c.without-holds.result.count < 16
-left-room c = omega (arith, length-held c.without-holds.result, ap length c.without-holds.ensures.0, give_room ((let it : (Gives c.args.self.machine c.args.self.machine.reported c.args.section) = let a = give_asked c.requires.calls in gives a (sym (give_rule_lem a) ∙ sym c.give_rule-rule.ensures ∙ c.if-rule-eq0.true) in it)))
+left-room c = omega (arith, length-held c.without-holds.result, ap length c.without-holds.ensures.0, give_room ((let it : (Gives c.args.self.machine c.args.self.machine.reported c.args.section) = let a = give_asked c.requires.calls in gives a (sym (give_rule_lem a) ∙ sym c.give_rule-rule.ensures ∙ zero_of c.give_rule-rule.result (sym c.is_ok.ensures.value ∙ c.if-is_ok.true)) in it)))
 
 pub find_heir-heir-requires : goal.find_heir-heir-requires
 find_heir-heir-requires c =
@@ -159,7 +162,7 @@ pub without-waits-requires : goal.without-waits-requires
 without-waits-requires c = waits_once_lem (known (goal.at.without-waits-requires c).Start) c.find_heir-heir.result.who
 
 pub placed-slots-requires : goal.placed-slots-requires
-placed-slots-requires c = (heir-below (goal.at.placed-slots-requires c).Then-heir, omega arith)
+placed-slots-requires c = heir-below (goal.at.placed-slots-requires c).Then-heir
 
 pub push-queue-requires : goal.push-queue-requires
 push-queue-requires c =
@@ -172,14 +175,11 @@ won-made-requires c = tt
 pub one-made-requires : goal.one-made-requires
 one-made-requires c = tt
 
-pub making-c-requires : goal.making-c-requires
-making-c-requires c = tt
-
 -- What is left before the Switch: no rule is broken, or one is. Where none is, three ways meet: the heir wins, the heir loses, nobody waits. Last in
 -- each stand the machine and the reports, and in the inner ones the holds.
-made : (c : goal.After-making-c)
-    → (Makes c.if-rule-eq0.m (reports_in c.making-c.result) c.give_rule-rule.result c.args.self.machine (records.Give c.args.section))
-made c =
+made : (c : goal.Joined-is_ok) {rs : Reports} → Stores rs c.if-is_ok.made
+    → (Makes c.if-is_ok.m rs c.give_rule-rule.result c.args.self.machine (records.Give c.args.section))
+made c stored =
     let m = c.args.self.machine in
     let x = c.args.self.machine.reported in
     let n = c.args.section in
@@ -187,13 +187,13 @@ made c =
     let f = (let it : Facts c.args.self.machine = facts (give_asked c.requires.calls).asked.formed in it) in
     let q = c.give_rule-rule.ensures ∙ give_rule_lem a in
     let none' = c.none-made.ensures in
-    elim c.if-rule-eq0.branch [
-      | then-rule-eq0 v ↦ let g = gives a (sym q ∙ v.if-rule-eq0.true) in
+    elim c.if-is_ok.branch [
+      | then-is_ok v ↦ let g = gives a (sym q ∙ zero_of c.give_rule-rule.result (sym c.is_ok.ensures.value ∙ v.if-is_ok.true)) in
           let left = v.without-holds.ensures.0 in
           let t = v.find_heir-heir.result.who in
           let walked = keeps_walked (plan_of m) v.without-holds.result (ceilings_are m f.valid c.requires.ceilings') v.without-holds.ensures.1 in
           let e = v.find_heir-heir.ensures in
-          admits q (by g.runs (λ y. give (plan_of m) y n)) v.if-rule-eq0.true v.m-is refl
+          admits q (by g.runs (λ y. give (plan_of m) y n)) (sym c.is_ok.ensures.value ∙ v.if-is_ok.true) v.m-is refl
           (elim v.if-heir.branch [
             | then-heir w ↦ let d = somebody m f t e.0 c.args.ceilings.now (held v.without-holds.result) e.1 w.if-heir.true in
                 let o = named (heir_in m) t (is-heir m f t e.0) d in
@@ -210,7 +210,7 @@ made c =
                       (w.push-holds.ensures.0 ∙ ap₂ (λ (k : ℕ) (hs : List Hold). hold k t ∷ hs) (w.wanted-wanted.ensures ∙ wants_is m f t e.0 d) left)
                       w.without-waits.ensures
                       refl refl
-                      (told c.making-c.ensures (v.made-is ∙ w.made-is) w.won-made.ensures)
+                      (told stored (v.made-is ∙ w.made-is) w.won-made.ensures)
                       refl);
                 })
             | else-heir+then-t w ↦ let o = named (heir_in m) t (is-heir m f t e.0) w.if-t.true in
@@ -221,20 +221,19 @@ made c =
                   seen =
                       lost-seen (plan_of m) x n (idle m) t o
                       (tested m c.args.ceilings.now f c.requires.ceilings' t o left v.find_heir-heir.result.free false e.1 w.if-heir.false)
-                      (alike refl refl refl left refl refl refl (told c.making-c.ensures (v.made-is ∙ w.made-is) w.one-made.ensures) refl);
+                      (alike refl refl refl left refl refl refl (told stored (v.made-is ∙ w.made-is) w.one-made.ensures) refl);
                 })
             | else-heir+else-t w ↦ rw (w.m-is, w.holds-is)
-                (record { plan' = refl; keeps = walked; seen = none_seen (plan_of m) x n (idle m) (nobody m f t e.0 w.if-t.false) (alike refl refl refl left refl refl refl (told c.making-c.ensures (v.made-is ∙ w.made-is) none') refl) })
+                (record { plan' = refl; keeps = walked; seen = none_seen (plan_of m) x n (idle m) (nobody m f t e.0 w.if-t.false) (alike refl refl refl left refl refl refl (told stored (v.made-is ∙ w.made-is) none') refl) })
           ])
-      | else-rule-eq0 v ↦ refuses q c.requires.calls.asks.stands.keeps v.if-rule-eq0.false v.m-is refl (told c.making-c.ensures v.made-is none')
+      | else-is_ok v ↦ refuses q c.requires.calls.asks.stands.keeps (sym c.is_ok.ensures.value ∙ v.if-is_ok.false) v.m-is refl (told stored v.made-is none')
     ]
 
-pub chosen-who-requires : goal.chosen-who-requires
-chosen-who-requires c = (call_settles c.requires.calls (made (goal.at.chosen-who-requires c).After-making-c)).chooses
-
-pub owing-requires : goal.owing-requires
-owing-requires c = (call_settles c.requires.calls (made (goal.at.owing-requires c).After-making-c)).room
+pub settled-requires : goal.settled-requires
+settled-requires c =
+    let j = (goal.at.settled-requires c).Joined-is_ok in
+    let s = call_settles c.requires.calls (made j (stores_own j.if-is_ok.made)) in (s.chooses, s.room)
 
 pub returns : goal.returns
 returns c =
-    rw c.owing.ensures (record { answers = quiet_answers c.requires.calls (made (goal.at.returns c).After-making-c) refl c.chosen-who.ensures; quiet' = refl })
+    rw c.settled.ensures.owed (record { answers = quiet_answers c.requires.calls (made (goal.at.returns c).Joined-is_ok c.settled.ensures.stored) refl refl; quiet' = refl })

@@ -22,4 +22,4 @@ begins (x ∷ y ∷ l) a b h (suc (suc (suc n))) k = absurd (omega arith)
 pub returns : goal.returns
 returns c =
     let a = c.args in
-    record { stored = λ due t. begins a.self.reports a.made.first a.made.second (omega (arith, reporting_size a.self c.well_formed.0)) a.made.count t.few ∙ t.listed' }
+    record { count = refl; stored = record { stored = λ due t. begins a.self.reports a.made.first a.made.second (omega (arith, reporting_size a.self c.well_formed.0)) a.made.count t.few ∙ t.listed' } }

@@ -1,6 +1,6 @@
 -- `start` meets its contract: the arming goes on with a start.
 use mathlib.Core.Path.{◌∙◌}
-use lib.Dec.{eqb}
+use Rattle.std.specs.Prelude.{is_ok}
 use Rattle.model.specs.Records as records
 use Rattle.machine.proofs.Asking.{start_rule}
 use Rattle.machine.proofs.Facts.{facts}
@@ -25,4 +25,4 @@ pub returns : goal.returns
 returns c =
     let i = c.args.number in
     c.timed.ensures (records.Start i)
-    (record { sets = c.requires; rule' = c.run_rule-rule.ensures ∙ start_rule (caller_asked c.requires) i; timers' = c.started.ensures; made' = no_late c.none.ensures (eqb c.run_rule-rule.result 0) })
+    (record { sets = c.requires; rule' = c.run_rule-rule.ensures ∙ start_rule (caller_asked c.requires) i; timers' = rw c.is_ok.ensures.value at c.started.ensures; made' = no_late c.none.ensures (is_ok c.run_rule-rule.result) })

@@ -21,6 +21,8 @@ use Rattle.machine.specs.declared.reporting.Reporting.{Reporting}
 use Rattle.machine.specs.View.{conditions_of, idle, shown}
 use Rattle.machine.specs.Clauses.{wakes_at, owing}
 use Rattle.machine.specs.Calls.{Quiet, Called}
+use mathlib.Core.Bool.{true≢false}
+use Rattle.std.specs.Prelude.{Ok}
 use Rattle.machine.proofs.Admitted.{MakesOf}
 use Rattle.machine.proofs.Asking.{tick_rule}
 use Rattle.machine.proofs.Facts.{Facts, facts}
@@ -107,7 +109,7 @@ due c =
     ∙ ap₂ (λ a b. a ++ (map Expire b ++ map Ready (queued c.wake-w.result.woken))) (same_kept c.before.before.before) (same_ended c.before.before.before n)
     ∙ ap (λ l. without_switch (owed_before c.before.before.before.before) ++ (map Expire (expired n (owed_before c.before.before.before.before) (idle c.args.self.machine).timers) ++ map Ready l)) (c.wake-w.ensures.woken' ∙ woken_are ((let it : Facts c.args.self.machine = facts (tick_asked c.requires).formed in it)) n)
 
-made : (c : goal.After-moved_on-later) → (let s = c.args.self in MakesOf (shown s) (ticked c) c.ticked-rs.result 0 s.machine records.Tick)
+made : (c : goal.After-moved_on-later) → (let s = c.args.self in MakesOf (shown s) (ticked c) c.ticked-rs.result (Ok tt) s.machine records.Tick)
 unfolding tick
 made c =
     let s = c.args.self in
@@ -126,7 +128,7 @@ made c =
     refl
     (due c ∙ ap (λ k. without_switch (shown s).due ++ (map Expire (expired k (shown s).due (idle m).timers) ++ map Ready (sleepers k (idle m)))) z)
     (c.moved_on-later.ensures ∙ ap (λ k. move_on k (idle m).timers) z) in
-    record { plan' = refl; rule' = tick_rule (tick_asked c.requires) (shown s).due; made = λ q. seen; stays = λ d. absurd (d refl); keeps = c.requires.asks.stands.keeps }
+    record { plan' = refl; rule' = tick_rule (tick_asked c.requires) (shown s).due; made = λ _. seen; stays = λ d. absurd (true≢false d); keeps = c.requires.asks.stands.keeps }
 
 pub chosen-who-requires : goal.chosen-who-requires
 chosen-who-requires c = (tick_settles c.requires (made (goal.at.chosen-who-requires c).After-moved_on-later)).chooses
@@ -142,6 +144,6 @@ owing-requires c =
 pub returns : goal.returns
 returns c =
     let m = ticked (goal.at.returns c).After-moved_on-later in
-    let is = c.owing.ensures ∙ ap (λ (rs : Reports). owing m rs 0 c.chosen-who.result c.next_event-quiet.result) c.telling.ensures in
+    let is = c.owing.ensures ∙ ap (λ (rs : Reports). owing m rs (Ok tt) c.chosen-who.result c.next_event-quiet.result) c.telling.ensures in
     subst (λ (x : Reporting). Called x c.args.self records.Tick) (sym is)
     (record { answers = tick_answers c.requires (made (goal.at.returns c).After-moved_on-later) c.chosen-who.ensures (subst (Quiet m) (sym c.next_event-quiet.ensures) (next_quiet m (tick_sleeps (known (goal.at.returns c).After-wake-w) (made (goal.at.returns c).After-moved_on-later)))); quiet' = c.next_event-quiet.ensures })

@@ -1,4 +1,5 @@
 -- `is_still` meets its contract: what is asked is asked in turn, and the first No ends.
+use Rattle.std.proofs.Common.{rules, tests}
 use mathlib.Core.Path.{◌≡◌, ap, ap₂, sym, ◌∙◌}
 use mathlib.Core.Bool.{true}
 use Prim.Native.Nat.{◌+◌}
@@ -52,4 +53,5 @@ soonest-first-requires c = c.requires.1
 pub returns : goal.returns
 returns c =
     let later' = sym (all-after-is (goal.at.returns c).After-all_after) ∙ not-false c.all_after.result c.if-not-all_after.false-raw in
-    rw (undue (goal.at.returns c).Else-self, complete (goal.at.returns c).Else-not-is_complete, later') (ap₂ ltb c.next-number.ensures c.soonest-first.ensures)
+    let below : c.lt.result ≡ ltb c.next-number.result.0 c.soonest-first.result.0 = search (rules, tests) in
+    rw (undue (goal.at.returns c).Else-self, complete (goal.at.returns c).Else-not-is_complete, later') (below ∙ ap₂ ltb c.next-number.ensures c.soonest-first.ensures)

@@ -1,6 +1,0 @@
--- `byte_at` meets its contract: a byte is below 256.
-use native.Mathlib.Omega.{arith}
-use Rattle.plan.proofs.bytes.byte_at.Goals as goal
-
-pub overflow_cast-result : goal.overflow_cast-result
-overflow_cast-result c = omega (arith, c.shared_slice_known-1.given c.args.place)

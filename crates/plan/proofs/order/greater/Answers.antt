@@ -1,9 +1,0 @@
--- `greater` meets its contract: the test says which of the two is the greater.
-use native.Mathlib.Omega.{arith}
-use Rattle.plan.proofs.order.greater.Goals as goal
-
-pub returns-then-a-b : goal.returns-then-a-b
-returns-then-a-b c = omega arith
-
-pub returns-else-a-b : goal.returns-else-a-b
-returns-else-a-b c = omega arith
