@@ -33,6 +33,8 @@ pub use Rattle.machine.proofs.Keeping.{keeps_on}
 pub use Rattle.machine.proofs.Chosen.{ceilings_are}
 -- a state opened to be moved on from stands for the same state of the model
 pub use Rattle.machine.proofs.Opening.{opened_shown, opened_stands}
+-- an answer whose number is not 0 names a rule
+pub use Rattle.machine.proofs.Answered.{err_of}
 -- the place of a record by its kind; a record moves as in the model, or its rule is answered: what is answered of a record that is heard, of a report with
 -- nothing due, and of a Tick at which nothing happens
 pub use Rattle.machine.proofs.Questions.{named_place}

@@ -33,7 +33,7 @@ use Rattle.due.specs.Lists.{report_room, thread_of, listed, owed}
 use Rattle.machine.specs.View.{plan_of, viewed, idle, report_at, shown}
 use Rattle.machine.specs.Clauses.{owing, passed}
 use Rattle.machine.specs.Calls.{Apart, Quiet, Stands, Asks, Calls, Ticks, Answers}
-use Rattle.machine.proofs.Answered.{yes_or_no, zero_of}
+use Rattle.machine.proofs.Answered.{yes_or_no, zero_of, some_of}
 use Rattle.machine.proofs.Admitted.{CreateAsked, Asked, SectionAsked, TickAsked, asked, MakesOf, Makes, by}
 use Rattle.machine.proofs.Facts.{Formed, facts}
 use Rattle.due.proofs.Laws.{none_due, switch_to_lem}
@@ -138,7 +138,7 @@ module _ {c : Reporting} {k : Call} (a : Asks c (call k)) {left : Machine} {rs :
     -- it moves the machine, where it stands for what the model's call and its Switch make
     moved_by : is_ok rule ≡ true → shown after ≡ switch (plan_of left) (viewed left (owed rs)) → Apart after → Answers after c (call k)
     moved_by z v p =
-        moves c after made.plan' made.rule' z
+        moves c after made.plan' (sym made.rule' ∙ zero_of rule z) (zero_of rule z)
         (v
         ∙ ap (λ (q : plan.Plan). switch q (viewed left (owed rs))) (ap plans.view made.plan')
         ∙ ap (switch (plan_of c.machine)) (made.made z))
@@ -157,7 +157,7 @@ module _ {c : Reporting} {k : Call} (a : Asks c (call k)) {left : Machine} {rs :
             moved_by z (last_shown left rs rule who quiet e (one_byte left_settles who is) ∙ switched left_settles who is d) (last_apart left rs rule who quiet e left_settles.room)
         go (inr d) q =
             let e : is_ok rule && not (eqb who left.reported) ≡ false = rw d in
-            breaks c after made.plan' (none_shown left rs rule who quiet e ∙ made.stays d) made.rule' d (stands (none_apart left rs rule who quiet e))
+            breaks c after made.plan' (none_shown left rs rule who quiet e ∙ made.stays d) made.rule' (some_of rule d) (stands (none_apart left rs rule who quiet e))
 
 -- a call with nothing due
 module _ {c : Reporting} {k : Call} (a : Calls c k) {left : Machine} {rs : Reports} {rule : Result Unit Rule} (made : Makes left rs rule c.machine k) where
@@ -193,7 +193,7 @@ module _ {c : Reporting} (a : Ticks c) {left : Machine} {rs : Reports} (made : M
   tick_answers is still = left_answers a.asks made ticks_on is still
 
 -- a Tick at which nothing happens
-module _ {c : Reporting} (a : Calls c records.Tick) (z : is_ok c.rule ≡ true) (below : c.machine.tick.0 + 1 < c.quiet.0) where
+module _ {c : Reporting} (a : Calls c records.Tick) (z : c.rule ≡ 0) (below : c.machine.tick.0 + 1 < c.quiet.0) where
   abbrev m : Machine
   m = c.machine
 
@@ -210,7 +210,7 @@ module _ {c : Reporting} (a : Calls c records.Tick) (z : is_ok c.rule ≡ true) 
 
   pub passed_answers : Answers (passed c) c (call records.Tick)
   passed_answers =
-      moves c (passed c) refl (zero_of c.rule z ∙ tick_rule (tick_asked (record { asks = a.asks; ordered = a.ordered })) (shown c).due) z
+      moves c (passed c) refl (sym (tick_rule (tick_asked (record { asks = a.asks; ordered = a.ordered })) (shown c).due)) z
       (passed_shown ∙ sym unswitched_tick ∙ ap (λ (st : state.State). effect (plan_of m) (call records.Tick) st) (sym (comes_idle a)))
       (record {
         keeps = a.asks.stands.keeps;

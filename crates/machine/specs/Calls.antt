@@ -1,5 +1,5 @@
 -- What a call and a report ask, and that they answer what one step of the model does.
-use Rattle.std.specs.Prelude.{◌≡◌, Result, Ok, Err, is_ok, ◌⊎◌, Bool, true, false, cond, List, [], ℕ, ◌+◌, ◌%◌, ◌≤◌, ◌<◌, T, eqb}
+use Rattle.std.specs.Prelude.{◌≡◌, Result, is_ok, ◌⊎◌, Bool, cond, List, [], ℕ, ◌+◌, ◌%◌, ◌≤◌, ◌<◌, T, eqb}
 use Rattle.std.proofs.Math.Option.{some}
 use Rattle.model.specs.Records as records
 use Rattle.model.specs.State.{asleep}
@@ -12,7 +12,6 @@ use Rattle.clock.specs.declared.timers.Timers.{Timers}
 use Rattle.clock.specs.View as timing
 use Rattle.clock.specs.Clauses.{kind_place}
 use Rattle.machine.specs.declared.rules.Rule.{Rule}
-use Rattle.machine.specs.declared.rules.Rule.TheVariants.{NoneDue}
 use Rattle.machine.specs.declared.slots.Slots.{Slots}
 use Rattle.machine.specs.declared.Machine.{Machine}
 use Rattle.due.specs.declared.made.Made.{Made}
@@ -70,9 +69,9 @@ pub record Ticks (c : Reporting) : Type 0 where
 -- What is answered of a record: what the model's step answers, the state after it with all its reports due, or the broken rule, which leaves
 -- the state as it came.
 pub record Answers (after c : Reporting) (r : records.Record) : Type 0 where
-  pub outcome : cond (is_ok after.rule) (moved (shown after)) (broke (answer_number after.rule)) ≡ step (plan_of c.machine) (shown c) r
+  pub outcome : cond (eqb after.rule 0) (moved (shown after)) (broke after.rule) ≡ step (plan_of c.machine) (shown c) r
   pub plan' : after.machine.plan ≡ c.machine.plan
-  pub stays : is_ok after.rule ≡ false → shown after ≡ shown c
+  pub stays : (after.rule ≡ 0 → ⊥) → shown after ≡ shown c
   pub stands' : Stands after
 
 -- the tick number before which nothing happens, after a call: asked anew by a Tick, no longer known after a Delay and where timers are set, and kept
@@ -113,12 +112,12 @@ pub record Hearing (c : Reporting) (kind : ℕ) : Type 0 where
   pub due' : T (in_place c.machine kind) → c.given < c.due
 
 -- another rule, and nothing else changed
-abbrev pub barred : Reporting → (rule : Result Unit Rule) → Reporting
+abbrev pub barred : Reporting → (rule : ℕ) → Reporting
 barred c rule = record { machine = c.machine; reports = c.reports; count = c.count; due = c.due; given = c.given; chosen = c.chosen; quiet = c.quiet; rule = rule }
 
 -- 28: a report where none is due
 abbrev pub unasked : Reporting → Reporting
-unasked c = barred c (Err NoneDue)
+unasked c = barred c 28
 
 -- one more report is given, and this thread is the one reported
 abbrev pub told : Reporting → (reported : ℕ) → Reporting
@@ -132,14 +131,14 @@ told c x =
       given = c.given + 1;
       chosen = c.chosen;
       quiet = c.quiet;
-      rule = Ok tt;
+      rule = 0;
     }
 
 -- a record that is heard, by its kind and operand: the first due is given, a Switch given names the thread reported, or a rule is broken
 pub record Hears (r c : Reporting) (kind operand : ℕ) : Type 0 where
-  pub rule' : answer_number r.rule ≡ cond (in_place c.machine kind) (due_rule (report_at c c.given) kind operand) 31
-  pub given' : is_ok r.rule ≡ true → r ≡ told c (cond (eqb kind 17) (operand % 256) c.machine.reported)
-  pub barred' : is_ok r.rule ≡ false → r ≡ barred c r.rule
+  pub rule' : r.rule ≡ cond (in_place c.machine kind) (due_rule (report_at c c.given) kind operand) 31
+  pub given' : r.rule ≡ 0 → r ≡ told c (cond (eqb kind 17) (operand % 256) c.machine.reported)
+  pub barred' : (r.rule ≡ 0 → ⊥) → r ≡ barred c r.rule
 
 -- as it is lent
 pub record Closes (r : State) (c : Reporting) : Type 0 where

@@ -1,5 +1,5 @@
 -- What the machine's functions other than the calls ask and answer.
-use Rattle.std.specs.Prelude.{◌≡◌, Result, Ok, is_ok, Bool, cond, not, ◌&&◌, ℕ, ◌+◌, min, ◌≤◌, ◌<◌, T, eqb, leb, ltb, length}
+use Rattle.std.specs.Prelude.{◌≡◌, Result, is_ok, Bool, cond, not, ◌&&◌, ℕ, ◌+◌, min, ◌≤◌, ◌<◌, T, eqb, leb, ltb, length}
 use mathlib.Core.List.{List, [], ◌∷◌, ◌++◌, map, tail, Memᴰ as Mem}
 use Rattle.model.specs.Searches.{filter, up_to}
 use Rattle.model.specs.Plan as plan
@@ -31,6 +31,7 @@ use Rattle.machine.specs.declared.state.State.{State}
 use Rattle.due.specs.Lists.{report_of, IsReport}
 use Rattle.machine.specs.View.{plan_of, idle, view}
 use Rattle.machine.specs.Kept.{kept}
+use Rattle.machine.specs.Rules.{answer_number}
 
 -- the number of a condition: see View, condition_of
 abbrev pub state_of : Condition → ℕ
@@ -127,7 +128,7 @@ pub record Delivers (r s : State) (given : Report) : Type 0 where
 
 -- a state to be moved on from: all its reports stand in the array, so that no Switch to a chosen thread stands apart
 abbrev pub opened : State → Reporting
-opened s = record { machine = s.machine; reports = s.due.items; count = s.due.count; due = s.due.count; given = s.given; chosen = 255; quiet = record { 0 = 0 }; rule = Ok tt }
+opened s = record { machine = s.machine; reports = s.due.items; count = s.due.count; due = s.due.count; given = s.given; chosen = 255; quiet = record { 0 = 0 }; rule = 0 }
 
 -- A machine with these reports due, and a Switch behind them where the chosen thread is not the one reported. Where a rule is broken there is
 -- none.
@@ -141,7 +142,7 @@ owing m rs rule x quiet =
       given = 0;
       chosen = x;
       quiet = quiet;
-      rule = rule;
+      rule = answer_number rule;
     }
 
 -- after a Tick at which nothing happens the tick number has grown by one, and nothing else has changed

@@ -1,5 +1,6 @@
 -- The rules as the code asks them: from the parts that each reads, as a number, 0 where the answer is Yes.
-use Rattle.std.specs.Prelude.{cond, List, ℕ, eqb, ltb, Result, Ok, Err}
+use Rattle.std.specs.Prelude as code
+use Rattle.std.specs.Prelude.{cond, List, ℕ, eqb, ltb, Result, Ok, Err, Some, None}
 use Rattle.std.proofs.Math.Option.{Option, none, some}
 use Rattle.model.specs.Timers.{slot, is_armed}
 use Rattle.model.specs.Rules.{holds_none, holds_not, last_taken}
@@ -33,6 +34,22 @@ number_of OtherKind = 29
 number_of OtherOperand = 30
 number_of ArmingOrder = 31
 number_of NotArmed = 32
+
+-- the rule of a number, if it is one's
+abbrev pub rule_numbered : ℕ → code.Option Rule
+rule_numbered n =
+    cond (eqb n 21) (Some ReportDue)
+    (cond (eqb n 22) (Some NobodyRuns)
+    (cond (eqb n 23) (Some NotDormant)
+    (cond (eqb n 24) (Some HoldsSection)
+    (cond (eqb n 25) (Some NotNeeded)
+    (cond (eqb n 26) (Some HeldAlready)
+    (cond (eqb n 27) (Some NotTakenLast)
+    (cond (eqb n 28) (Some NoneDue)
+    (cond (eqb n 29) (Some OtherKind)
+    (cond (eqb n 30) (Some OtherOperand)
+    (cond (eqb n 31) (Some ArmingOrder)
+    (cond (eqb n 32) (Some NotArmed) None)))))))))))
 
 -- the number of the rule that an answer names, 0 where it names none
 abbrev pub answer_number : Result Unit Rule → ℕ

@@ -7,7 +7,7 @@ ghost use Rattle.machine.specs.View.{report_at};
 ghost use Rattle.machine.specs.Calls.{in_place, Hearing, Hears, unasked};
 
 use crate::reporting::Reporting;
-use crate::rules::{Rule, due_rule};
+use crate::rules::{Rule, answer_number, due_rule};
 use due::reports::Report;
 
 impl Reporting {
@@ -56,7 +56,7 @@ impl Reporting {
                 c.machine.reported = who;
             }
         }
-        c.rule = rule;
+        c.rule = answer_number(rule);
         c
     }
 
@@ -65,7 +65,7 @@ impl Reporting {
         ensures { result ≡ unasked self }
     {
         let mut c = self;
-        c.rule = Err(Rule::NoneDue);
+        c.rule = Rule::NoneDue.number();
         c
     }
 }

@@ -8,7 +8,7 @@ ghost use Rattle.machine.specs.View.{plan_of, idle, reports_in};
 ghost use Rattle.machine.specs.Clauses.{Starts, Chooses, owing};
 
 use crate::Machine;
-use crate::rules::Rule;
+use crate::rules::{Rule, answer_number};
 use crate::slots::Slots;
 use clock::time::Tick;
 use clock::timers::Timers;
@@ -21,7 +21,8 @@ use plan::Plan;
 
 // `count` reports stand in the array; `due` is how many were due after the latest call, one more where a Switch is among them, to the thread `chosen`
 // after it. The first `given` are given.
-// Nothing happens before the tick number `quiet`. `rule` is the one that the latest record broke, if any.
+// Nothing happens before the tick number `quiet`. `rule` is the number of the rule that the latest record broke, 0 if there is none. It is a plain number
+// since a caller may lend any: no call reads it.
 #[derive(Clone, Copy)]
 pub struct Reporting {
     pub machine: Machine,
@@ -31,7 +32,7 @@ pub struct Reporting {
     pub given: usize,
     pub chosen: u8,
     pub quiet: Tick,
-    pub rule: Result<(), Rule>,
+    pub rule: u8,
 }
 
 impl Machine {
@@ -145,7 +146,7 @@ impl Reporting {
         c.given = 0;
         c.chosen = chosen;
         c.quiet = quiet;
-        c.rule = rule;
+        c.rule = answer_number(rule);
         c
     }
 }

@@ -1,7 +1,7 @@
 // The rules, and the questions asked of a record: the rule of the first No.
 ghost use Rattle.std.specs.Prelude.{◌≡◌, ◌≤◌, ◌<◌};
 ghost use Rattle.model.specs.Records.{timer_count};
-ghost use Rattle.machine.specs.Rules.{number_of, answer_number, create_rule, free_rule, take_rule, give_rule, run_rule, cancel_rule, due_rule};
+ghost use Rattle.machine.specs.Rules.{number_of, rule_numbered, answer_number, create_rule, free_rule, take_rule, give_rule, run_rule, cancel_rule, due_rule};
 
 use crate::slots::Slots;
 use clock::timers::Timers;
@@ -44,6 +44,37 @@ impl Rule {
         ensures { result ≡ number_of self }
     {
         self as u8
+    }
+
+    // The rule of this number, if it is one's.
+    pub fn numbered(number: u8) -> Option<Rule>
+        ensures { result ≡ rule_numbered number }
+    {
+        match number {
+            21 => Some(Rule::ReportDue),
+            22 => Some(Rule::NobodyRuns),
+            23 => Some(Rule::NotDormant),
+            24 => Some(Rule::HoldsSection),
+            25 => Some(Rule::NotNeeded),
+            26 => Some(Rule::HeldAlready),
+            27 => Some(Rule::NotTakenLast),
+            28 => Some(Rule::NoneDue),
+            29 => Some(Rule::OtherKind),
+            30 => Some(Rule::OtherOperand),
+            31 => Some(Rule::ArmingOrder),
+            32 => Some(Rule::NotArmed),
+            _ => None,
+        }
+    }
+}
+
+// The number of the rule that an answer names, 0 where it names none: as it stands beside a machine.
+pub(crate) fn answer_number(rule: Result<(), Rule>) -> u8
+    ensures { result ≡ answer_number rule }
+{
+    match rule {
+        Ok(()) => 0,
+        Err(rule) => rule.number(),
     }
 }
 

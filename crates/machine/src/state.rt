@@ -89,7 +89,7 @@ impl State {
             given: self.given,
             chosen: 255,
             quiet: Tick(0),
-            rule: Ok(()),
+            rule: 0,
         }
     }
 }

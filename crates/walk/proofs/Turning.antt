@@ -5,7 +5,6 @@ use mathlib.Core.Bool.{Bool, false, true, ◌&&◌, ◌||◌, not, true≢false}
 use mathlib.Core.List.{List}
 use Prim.Native.Nat.{ℕ, ◌+◌, ◌≤◌, ◌<◌}
 use lib.Dec.{T, eqb, leb, ltb, leb→le, ltb→lt, eqb→eq}
-use Rattle.std.specs.Prelude.{is_ok}
 use Rattle.model.specs.Records as records
 use Rattle.model.specs.Records.{call, is_tick, is_tick_record}
 use Rattle.model.specs.Rules.{stage, call_place, in_order}
@@ -93,7 +92,7 @@ module _ {s : State} {ceilings bytes : List ℕ} {from to : ℕ} (a : Walks s ce
     pub ticks_by : e.kind ≡ 7 → Ticks c
     ticks_by k = ticks (is_tick_call k)
 
-    pub passes : e.kind ≡ 7 → is_ok c.rule ≡ true → {quiet : Bool} → quiet ≡ (leb c.due c.given && ltb (c.machine.tick.0 + 1) c.quiet.0) → quiet ≡ true → {after : Reporting} → after ≡ passed c → Answers after c at
+    pub passes : e.kind ≡ 7 → c.rule ≡ 0 → {quiet : Bool} → quiet ≡ (leb c.due c.given && ltb (c.machine.tick.0 + 1) c.quiet.0) → quiet ≡ true → {after : Reporting} → after ≡ passed c → Answers after c at
     passes k z {quiet} b t q =
         let undue = leb c.due c.given in
         let below = ltb (c.machine.tick.0 + 1) c.quiet.0 in

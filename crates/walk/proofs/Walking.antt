@@ -9,30 +9,33 @@ use native.Mathlib.Omega.{arith}
 use borrow.Author.Tests.{eq-eqb, ne_eqb, ltb-true, ltb-false}
 use lib.Dec.{T, eqb, ltb}
 use lib.ListN.{length}
-use Rattle.std.specs.Prelude.{is_ok}
+use Rattle.std.specs.Prelude.{Option, Some, Result, Ok, is_ok}
 use Rattle.model.specs.Plan as model
 use Rattle.model.specs.Records as records
 use Rattle.model.specs.State as state
 use Rattle.model.specs.Runs.{Outcome, moved, broke, step, Verdict, clean, breach, run}
 use Rattle.model.specs.Formed.{last_tick, formed}
-use Rattle.model.proofs.Laws.{run_ended, run_moved, run_broke, Reached, next, tick_at_most, reached_formed}
+use Rattle.model.proofs.Laws.{run_ended, run_moved, run_broke, Reached, next, tick_at_most, broken_rule, reached_formed}
 use Rattle.model.proofs.Loops.{left, turn, done}
+use Rattle.model.proofs.Tests.{equal?}
 use Rattle.plan.specs.View as plans
 use Rattle.plan.specs.declared.Plan.{Plan}
 use Rattle.plan.proofs.Laws.{threads_view, valid_fits}
 use Rattle.machine.specs.declared.Machine.{Machine}
+use Rattle.machine.specs.declared.rules.Rule.{Rule}
+use Rattle.machine.specs.declared.rules.Rule.TheVariants.{ReportDue, NobodyRuns, NotDormant, HoldsSection, NotNeeded, HeldAlready, NotTakenLast, NoneDue, OtherKind, OtherOperand, ArmingOrder, NotArmed}
 use Rattle.machine.specs.declared.state.State.{State}
 use Rattle.machine.specs.declared.reporting.Reporting.{Reporting}
 use Rattle.machine.specs.View.{plan_of, view, shown}
-use Rattle.machine.specs.Rules.{answer_number}
+use Rattle.machine.specs.Rules.{number_of, rule_numbered, answer_number}
 use Rattle.machine.specs.Kept.{kept}
 use Rattle.machine.specs.Clauses.{Ceilings, opened}
 use Rattle.machine.specs.Calls.{Stands, Asks, Answers, Closes}
-use Rattle.machine.proofs.Laws.{ceilings_of, opened_shown, opened_stands, answers_moved, answers_broke}
+use Rattle.machine.proofs.Laws.{ceilings_of, opened_shown, opened_stands, err_of, answers_moved, answers_broke}
 use Rattle.dump.specs.Layout.{record_count, kind_at, operand_at, record_of, record_at, part, kind_of}
 use Rattle.dump.specs.Questions.{operand_fits}
 use Rattle.dump.proofs.Laws.{fits_kind, kind_back, allowed_back, wider}
-use Rattle.walk.specs.Clauses.{ends, Runs, Lent, Walks, WalkEnds}
+use Rattle.walk.specs.Clauses.{ends, Runs, Lent, Walks, answer_of, WalkEnds}
 
 -- the verdict of a run whose first record has number i, and the state in which it ends
 abbrev finish : model.Plan → ℕ → List records.Record → state.State → Verdict × state.State
@@ -55,6 +58,29 @@ module _ (p : model.Plan) (i : ℕ) (r : records.Record) (rs : List records.Reco
 
   finish_broke : (n : ℕ) → step p st r ≡ broke n → finish p i (r ∷ rs) st ≡ (breach i n, st)
   finish_broke n e = rw (run_broke p i r rs st n e, ends_by (broke n) e)
+
+-- a number that rules have is the number of the rule that is answered
+answer_back : (n : ℕ) → 21 ≤ n → n ≤ 32 → answer_number (answer_of (rule_numbered n)) ≡ n
+answer_back n l h =
+    by_one 21 ReportDue refl _
+    (λ a. by_one 22 NobodyRuns refl _
+    (λ b. by_one 23 NotDormant refl _
+    (λ c. by_one 24 HoldsSection refl _
+    (λ d. by_one 25 NotNeeded refl _
+    (λ e. by_one 26 HeldAlready refl _
+    (λ f. by_one 27 NotTakenLast refl _
+    (λ g. by_one 28 NoneDue refl _
+    (λ i. by_one 29 OtherKind refl _
+    (λ j. by_one 30 OtherOperand refl _
+    (λ k. by_one 31 ArmingOrder refl _
+    (λ m. by_one 32 NotArmed refl _ (λ o. absurd (omega (arith, l, h, a, b, c, d, e, f, g, i, j, k, m, o))))))))))))))
+  where
+    by_one : (k : ℕ) (r : Rule) → number_of r ≡ k → (rest : Option Rule) → (n ≢ k → answer_number (answer_of rest) ≡ n) → answer_number (answer_of (cond (eqb n k) (Some r) rest)) ≡ n
+    by_one k r e rest f = go (equal? n k)
+      where
+        go : (n ≡ k) ⊎ (n ≢ k) → answer_number (answer_of (cond (eqb n k) (Some r) rest)) ≡ n
+        go (inl q) = ap (λ b. answer_number (answer_of (cond b (Some r) rest))) (eq-eqb n k q) ∙ e ∙ sym q
+        go (inr d) = ap (λ b. answer_number (answer_of (cond b (Some r) rest))) (ne_eqb n k d) ∙ f d
 
 -- Before record i of a walk, under a plan and from a state: the records left lead from here where all of them lead from there.
 pub record Walking (plan : Plan) (st : state.State) (bytes : List ℕ) (from to : ℕ) (c : Reporting) (i : ℕ) : Type 0 where
@@ -128,23 +154,22 @@ module _ {first : State} {ceilings : List ℕ} {bytes : List ℕ} {from to : ℕ
     same_plan = ap plans.view w.plan'
 
     -- where the walk ends, with its verdict: here, or at the record that breaks a rule
-    ended : {after : Reporting} {s : State} {at : ℕ} → after.machine.plan ≡ first.machine.plan → Stands after → Closes s after
-        → (cond (is_ok after.rule) (clean at (length (shown after).due)) (breach at (answer_number after.rule)), shown after) ≡ finish (plan_of first.machine) from (part bytes from to) (view first)
-        → WalkEnds (record { state = s; at = at; rule = after.rule }) first bytes from to
-    ended {after} {s} {at} q t k z =
+    ended : {after : Reporting} {s : State} {at : ℕ} {rule : Result Unit Rule} → after.machine.plan ≡ first.machine.plan → Stands after → Closes s after
+        → (cond (is_ok rule) (clean at (length (shown after).due)) (breach at (answer_number rule)), shown after) ≡ finish (plan_of first.machine) from (part bytes from to) (view first)
+        → WalkEnds (record { state = s; at = at; rule = rule }) first bytes from to
+    ended {after} {s} {at} {rule} q t k z =
         record {
           plan' = ap (λ (m : Machine). m.plan) k.machine' ∙ q;
-          verdict = ap (λ (x : state.State). cond (is_ok after.rule) (clean at (length x.due)) (breach at (answer_number after.rule))) k.seen ∙ ap (λ f. f.0) z;
+          verdict = ap (λ (x : state.State). cond (is_ok rule) (clean at (length x.due)) (breach at (answer_number rule))) k.seen ∙ ap (λ f. f.0) z;
           state' = k.seen ∙ ap (λ f. f.1) z;
           keeps = subst (λ (m : Machine). T (kept m)) (sym k.machine') t.keeps;
         }
 
     -- behind the last record
-    pub walk_ends : is_ok c.rule ≡ true → to ≤ i → {s : State} → Closes s c → WalkEnds (record { state = s; at = i; rule = c.rule }) first bytes from to
-    walk_ends e h k =
-        ended w.plan' w.stands k
-        (ap (λ b. (cond b (clean i (length (shown c).due)) (breach i (answer_number c.rule)), shown c)) e
-        ∙ sym (finish_ended (plan_of c.machine) i (shown c))
+    pub walk_ends : to ≤ i → {s : State} → Closes s c → WalkEnds (record { state = s; at = i; rule = Ok tt }) first bytes from to
+    walk_ends h k =
+        ended {rule = Ok tt} w.plan' w.stands k
+        (sym (finish_ended (plan_of c.machine) i (shown c))
         ∙ sym (done (λ l. finish (plan_of c.machine) i (map (record_at bytes) l) (shown c)) to i h)
         ∙ w.leads)
 
@@ -209,15 +234,20 @@ module _ {first : State} {ceilings : List ℕ} {bytes : List ℕ} {from to : ℕ
         turned = sym (turn (λ l. finish (plan_of c.machine) i (map (record_at bytes) l) (shown c)) to i h) ∙ w.leads
 
         -- the record breaks a rule
-        pub walk_breaks : is_ok after.rule ≡ false → {s : State} → Closes s after → WalkEnds (record { state = s; at = i; rule = after.rule }) first bytes from to
+        pub walk_breaks : after.rule ≢ 0 → {s : State} → Closes s after → WalkEnds (record { state = s; at = i; rule = answer_of (rule_numbered after.rule) }) first bytes from to
         walk_breaks d k =
-            ended (b.plan' ∙ w.plan') b.stands' k
-            (ap (λ x. (cond x (clean i (length (shown after).due)) (breach i (answer_number after.rule)), shown after)) d
-            ∙ ap (λ (st : state.State). (breach i (answer_number after.rule), st)) (b.stays d)
-            ∙ sym (finish_broke (plan_of c.machine) i (record_at bytes i) (map (record_at bytes) (left (i + 1) to)) (shown c) (answer_number after.rule) (answers_broke b d)) ∙ turned)
+            let rule = answer_of (rule_numbered after.rule) in
+            let q = answers_broke b d in
+            let known = broken_rule (plan_of c.machine) (shown c) (record_at bytes i) after.rule q in
+            let back : answer_number rule ≡ after.rule = answer_back after.rule known.0 known.1 in
+            ended {rule = rule} (b.plan' ∙ w.plan') b.stands' k
+            (ap (λ x. (cond x (clean i (length (shown after).due)) (breach i (answer_number rule)), shown after)) (err_of rule (λ z. d (sym back ∙ z)))
+            ∙ ap (λ (n : ℕ). (breach i n, shown after)) back
+            ∙ ap (λ (st : state.State). (breach i after.rule, st)) (b.stays d)
+            ∙ sym (finish_broke (plan_of c.machine) i (record_at bytes i) (map (record_at bytes) (left (i + 1) to)) (shown c) after.rule q) ∙ turned)
 
         -- the record moves the machine
-        pub walk_moves : is_ok after.rule ≡ true → Walking first.machine.plan (view first) bytes from to after (i + 1)
+        pub walk_moves : after.rule ≡ 0 → Walking first.machine.plan (view first) bytes from to after (i + 1)
         walk_moves k =
             record {
               plan' = b.plan' ∙ w.plan';

@@ -1,5 +1,5 @@
 -- What a walk over records asks and answers.
-use Rattle.std.specs.Prelude.{◌≡◌, ◌⊎◌, false, cond, List, [], ◌∷◌, ℕ, ◌+◌, ◌-◌, ◌≤◌, ◌<◌, T, length, Result, is_ok}
+use Rattle.std.specs.Prelude.{◌≡◌, ◌⊎◌, false, cond, List, [], ◌∷◌, ℕ, ◌+◌, ◌-◌, ◌≤◌, ◌<◌, T, length, Option, Some, None, Result, Ok, Err, is_ok}
 use Rattle.model.specs.Plan as model
 use Rattle.model.specs.Records as records
 use Rattle.model.specs.State as state
@@ -41,6 +41,11 @@ pub record Walks (s : State) (ceilings : List ℕ) (bytes : List ℕ) (from to :
   pub within : to ≤ record_count bytes
   pub operands : (i : ℕ) → from ≤ i → i < to → T (operand_fits s.machine.plan.threads s.machine.plan.sections (kind_at bytes i) (operand_at bytes i))
   pub safe : Runs (plan_of s.machine) (view s) (to - from) ⊎ Lent (plan_of s.machine) (view s) bytes from to
+
+-- what a record is answered: the rule that it breaks, if any
+abbrev pub answer_of : Option Rule → Result Unit Rule
+answer_of None = Ok tt
+answer_of (Some r) = Err r
 
 -- a walk ends where the run does, with its verdict, and the owner is kept
 pub record WalkEnds (r : Walked) (s : State) (bytes : List ℕ) (from to : ℕ) : Type 0 where

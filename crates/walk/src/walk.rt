@@ -2,7 +2,8 @@
 // over one record.
 ghost use Rattle.std.specs.Prelude.{◌≡◌};
 ghost use Rattle.dump.specs.Layout.{record_count, running_place};
-ghost use Rattle.walk.specs.Clauses.{Walks, WalkEnds};
+ghost use Rattle.machine.specs.Rules.{rule_numbered};
+ghost use Rattle.walk.specs.Clauses.{Walks, WalkEnds, answer_of};
 
 use dump::place::entry_at;
 use dump::records::record_of;
@@ -56,11 +57,11 @@ pub fn walk(
                 Record::Report(_) => c = c.unasked(),
             }
         }
-        if c.rule.is_err() {
+        if c.rule != 0 {
             return Walked {
                 state: c.closed(),
                 at: i,
-                rule: c.rule,
+                rule: answer(c.rule),
             };
         }
         running += 2;
@@ -68,6 +69,16 @@ pub fn walk(
     Walked {
         state: c.closed(),
         at: to.max(from),
-        rule: c.rule,
+        rule: Ok(()),
+    }
+}
+
+// What a record is answered, by the number that a machine carries of the rule that it breaks.
+fn answer(number: u8) -> Result<(), Rule>
+    ensures { result ≡ answer_of (rule_numbered number) }
+{
+    match Rule::numbered(number) {
+        Some(rule) => Err(rule),
+        None => Ok(()),
     }
 }

@@ -1,16 +1,16 @@
 -- `walk` meets its contract. The loop's invariant: no rule is broken yet, from the state and record reached the run goes on to where it ends, and the
 -- running place is that record's.
 -- Each way through the loop is one of the machine's answers.
-use mathlib.Core.Path.{◌≡◌, refl, ap, sym, subst, ◌∙◌}
-use mathlib.Core.Bool.{Bool, true, false, not}
+use mathlib.Core.Path.{◌≡◌, refl, ap, subst, ◌∙◌}
+use mathlib.Core.Bool.{Bool, true, false}
 use Prim.Native.Nat.{ℕ, ◌≤◌, ◌<◌, max}
 use lib.Dec.{leb}
 use Rattle.std.proofs.lemmas.Bool.{leb-true, leb-false}
 use native.Mathlib.Omega.{arith}
-use Rattle.std.specs.Prelude.{is_ok}
+use Rattle.std.specs.Prelude.{Ok}
 use Rattle.machine.specs.declared.reporting.Reporting.{Reporting}
 use Rattle.machine.specs.View.{view}
-use Rattle.machine.specs.Calls.{Apart, Answers, Closes}
+use Rattle.machine.specs.Calls.{Answers}
 use Rattle.machine.proofs.Laws.{arming_known}
 use Rattle.dump.specs.Layout.{record_count}
 use Rattle.dump.proofs.Laws.{running_place_lem, running_next}
@@ -24,7 +24,7 @@ pub loop-i-init : goal.loop-i-init
 loop-i-init c =
     let a = c.args in
     let e = c.opened-c.ensures in
-    (ap (λ (x : Reporting). is_ok x.rule) e, as_opened a.s e (walk_begins c.requires.0 e), c.requires.1, λ h. refl)
+    (ap (λ (x : Reporting). x.rule) e, as_opened a.s e (walk_begins c.requires.0 e), c.requires.1, λ h. refl)
 
 -- where the loop stands, as a walk from the state that came
 standing : (l : goal.At-loop-i) → (let a = l.args in Walking a.s.machine.plan (view a.s) a.bytes.now a.from a.to l.loop-i.c l.loop-i.i)
@@ -118,10 +118,9 @@ overflow_add-running c =
 
 pub loop-i-preserved : goal.loop-i-preserved
 loop-i-preserved c =
-    let stands = standing (goal.at.loop-i-preserved c).At-loop-i in
-    let passes = c.is_err.ensures.negation ∙ ap not c.if-is_err.false in (
-      passes,
-      as_opened c.args.s c.opened-c.ensures (walk_moves c.requires.0 stands c.loop-i-test.true (answered (goal.at.loop-i-preserved c).Joined-hears stands) passes),
+    let stands = standing (goal.at.loop-i-preserved c).At-loop-i in (
+      c.if-c-ne0.false,
+      as_opened c.args.s c.opened-c.ensures (walk_moves c.requires.0 stands c.loop-i-test.true (answered (goal.at.loop-i-preserved c).Joined-hears stands) c.if-c-ne0.false),
       running_next (record_count c.args.bytes.now) c.loop-i.i c.loop-i.invariant.2,
       λ h. omega arith,
     )
@@ -132,10 +131,10 @@ closed-requires c = let stands = standing (goal.at.closed-requires c).At-loop-i 
 pub closed-requires-2 : goal.closed-requires-2
 closed-requires-2 c = (standing (goal.at.closed-requires-2 c).At-loop-i).stands.apart'
 
-pub returns-then-is_err : goal.returns-then-is_err
-returns-then-is_err c =
-    let stands = standing (goal.at.returns-then-is_err c).At-loop-i in
-    walk_breaks c.requires.0 stands c.loop-i-test.true (answered (goal.at.returns-then-is_err c).Joined-hears stands) (c.is_err.ensures.negation ∙ ap not c.if-is_err.true) c.closed.ensures
+pub returns-then-c-ne0 : goal.returns-then-c-ne0
+returns-then-c-ne0 c =
+    let stands = standing (goal.at.returns-then-c-ne0 c).At-loop-i in
+    rw c.answer.ensures (walk_breaks c.requires.0 stands c.loop-i-test.true (answered (goal.at.returns-then-c-ne0 c).Joined-hears stands) c.if-c-ne0.true c.closed.ensures)
 
 -- where no record breaks a rule, the walk ends behind the last one, or where it began if there is none
 at_end : (from to i m : ℕ) → from ≤ i → (from ≤ to → i ≤ to) → to ≤ i → (to ≤ from → i ≡ from) → m ≡ max to from → i ≡ m
@@ -149,5 +148,5 @@ pub returns : goal.returns
 returns c =
     let a = c.args in
     let reached : c.loop-i.i ≡ c.max.result = at_end c.args.from c.args.to c.loop-i.i _ c.loop-i.auto.i c.loop-i.auto.i-end c.loop-i-test.false c.loop-i.invariant.3 c.max.ensures in
-    subst (λ n. WalkEnds (record { state = c.closed-2.result; at = n; rule = c.loop-i.c.rule }) a.s a.bytes.now a.from a.to) reached
-    (walk_ends c.requires.0 (standing (goal.at.returns c).At-loop-i) c.loop-i.invariant.0 c.loop-i-test.false c.closed-2.ensures)
+    subst (λ n. WalkEnds (record { state = c.closed-2.result; at = n; rule = Ok tt }) a.s a.bytes.now a.from a.to) reached
+    (walk_ends c.requires.0 (standing (goal.at.returns c).At-loop-i) c.loop-i-test.false c.closed-2.ensures)

@@ -2,9 +2,7 @@
 -- running place is that record's.
 -- Each way through the loop is one of the machine's answers.
 use mathlib.Core.Path.{◌≡◌}
-use mathlib.Core.Bool.{true}
 use Prim.Native.Nat.{◌≤◌}
-use Rattle.std.specs.Prelude.{is_ok}
 use Rattle.machine.specs.View.{shown}
 use Rattle.dump.specs.Layout.{record_count, running_place}
 use Rattle.walk.proofs.Walking.{Walking}
@@ -12,4 +10,4 @@ use Rattle.walk.proofs.walk.walk.Given as goal
 
 abbrev pub invariant-loop-i : goal.invariant-loop-i
 invariant-loop-i l =
-    (is_ok l.c.rule ≡ true) × Walking l.initial.c.machine.plan (shown l.initial.c) l.bytes l.from l.to l.c l.i × (l.running ≡ running_place (record_count l.bytes) l.i) × (l.to ≤ l.from → l.i ≡ l.from)
+    (l.c.rule ≡ 0) × Walking l.initial.c.machine.plan (shown l.initial.c) l.bytes l.from l.to l.c l.i × (l.running ≡ running_place (record_count l.bytes) l.i) × (l.to ≤ l.from → l.i ≡ l.from)
