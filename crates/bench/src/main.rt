@@ -13,6 +13,7 @@ use plan::input::plan_length;
 use std::io::{Read, Write};
 use streams::failure::Failure;
 use streams::input::read_input;
+use streams::output::write_piece;
 use streams::text::{Text, line};
 
 // The plan in front, the call list behind it.
@@ -49,7 +50,7 @@ fn run<R: Read, W: Write>(reader: &mut R, writer: &mut W) -> Result<Option<Text>
     let mut out = [0; 65536];
     match written(&input[..size], &mut out) {
         Ok(dump) => {
-            writer.write_all(&out[..dump]).map_err(|_| Failure::Write)?;
+            write_piece(writer, &out[..dump]).map_err(|_| Failure::Write)?;
             Ok(None)
         }
         Err(text) => Ok(Some(text)),
@@ -58,9 +59,13 @@ fn run<R: Read, W: Write>(reader: &mut R, writer: &mut W) -> Result<Option<Text>
 
 // A failure is told by a line alone: the exit status stays 0.
 fn main(rt: HostRuntime) {
-    let _ = match run(&mut rt.stdin(), &mut rt.stdout()) {
-        Ok(None) => Ok(()),
-        Ok(Some(text)) => rt.stderr().write_all(text.as_slice()),
-        Err(failure) => eprintln!(rt; "bench: {failure}"),
+    let told = match run(&mut rt.stdin(), &mut rt.stdout()) {
+        Ok(line) => line.unwrap_or_default(),
+        Err(failure) => {
+            let mut text = Text::new();
+            let _ = writeln!(text, "bench: {failure}");
+            text
+        }
     };
+    let _ = write_piece(&mut rt.stderr(), told.as_slice());
 }

@@ -11,6 +11,7 @@ use plan::input::plan_length;
 use std::io::{Read, Write};
 use streams::failure::Failure;
 use streams::input::read_input;
+use streams::output::write_piece;
 use streams::text::{Text, line};
 
 // The plan in front, the dump behind it.
@@ -49,14 +50,14 @@ fn run<R: Read, W: Write>(reader: &mut R, writer: &mut W) -> Result<(), Failure>
     let mut input = [0; 65536];
     let size = read_input(reader, &mut input).map_err(|_| Failure::Read)?;
     let text = answer_line(&input[..size]);
-    writer
-        .write_all(text.as_slice())
-        .map_err(|_| Failure::Write)
+    write_piece(writer, text.as_slice()).map_err(|_| Failure::Write)
 }
 
 // A failure is told by a line alone: the exit status stays 0.
 fn main(rt: HostRuntime) {
     if let Err(failure) = run(&mut rt.stdin(), &mut rt.stdout()) {
-        let _ = eprintln!(rt; "watch: {failure}");
+        let mut text = Text::new();
+        let _ = writeln!(text, "watch: {failure}");
+        let _ = write_piece(&mut rt.stderr(), text.as_slice());
     }
 }

@@ -14,9 +14,9 @@ returns-in_ok-map_err-in-Ok-clause-output g c =
     let known = g.R.Read.remaining c.args.reader.now in
     let read : c.read_input.result ≡ Ok n = search rules in
     let front = subst (λ r. IfOk r (λ n. IfSome known (λ input. take n buf ≡ take (length buf) input))) read c.read_input.ensures.bytes in
-    let grown = Appends (g.W.Write.contents c.args.writer.now) (g.W.Write.contents c.write_all.new.self) in
-    let wrote : c.write_all.result ≡ Ok c.in_ok-map_err-in-Ok.field-0 = search rules in
-    let done = subst (λ r. OnOk r (grown (take c.in-Ok.dump c.written.new.out))) wrote c.write_all.ensures.bytes in
+    let grown = Appends (g.W.Write.contents c.args.writer.now) (g.W.Write.contents c.write_piece.new.writer) in
+    let wrote : c.write_piece.result ≡ Ok c.in_ok-map_err-in-Ok.field-0 = search rules in
+    let done = subst (λ r. OnOk r (grown (take c.in-Ok.dump c.written.new.out))) wrote c.write_piece.ensures in
     read_same (λ input. to_output input (replicate 65536 0)) grown known n 65536 buf (λ input. cut_output input (replicate 65536 0)) c.read_input.auto.buf front (subst grown c.in-Ok.ensures.out_after done)
 
 pub returns-in_ok-map_err-in-Ok-clause-line : goal.returns-in_ok-map_err-in-Ok-clause-line

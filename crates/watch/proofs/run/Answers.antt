@@ -19,5 +19,5 @@ returns g c =
     let read : c.read_input.result ≡ Ok n = search rules in
     let front = subst (λ r. IfOk r (λ n. IfSome (g.R.Read.remaining c.args.reader.now) (λ input. take n buf ≡ take (length buf) input))) read c.read_input.ensures.bytes in
     let text : c.as_slice.result.now ≡ printed (take n buf) = search rules in
-    let wrote = Appends (g.W.Write.contents c.args.writer.now) (g.W.Write.contents c.write_all.new.self) in
-    as_done c.write_all.result c.map_err-2.result (search rules) (λ p. read_same printed wrote (g.R.Read.remaining c.args.reader.now) n 65536 buf cut_printed c.read_input.auto.buf front (subst wrote text p)) c.write_all.ensures.bytes
+    let wrote = Appends (g.W.Write.contents c.args.writer.now) (g.W.Write.contents c.write_piece.new.writer) in
+    as_done c.write_piece.result c.map_err-2.result (search rules) (λ p. read_same printed wrote (g.R.Read.remaining c.args.reader.now) n 65536 buf cut_printed c.read_input.auto.buf front (subst wrote text p)) c.write_piece.ensures
