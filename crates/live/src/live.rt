@@ -67,6 +67,14 @@ pub struct Told {
     pub reply: Reply,
 }
 
+// The plan of a watch state that was made of a refused one.
+const NO_PLAN: Plan = Plan {
+    threads: 0,
+    sections: 0,
+    bases: [0u8; 16],
+    needs: [0u16; 16],
+};
+
 // A state at its start, with no breach stored.
 fn fresh(plan: Plan) -> Watch
     ensures { seen result ≡ fresh (plan_view plan) }
@@ -81,20 +89,10 @@ fn fresh(plan: Plan) -> Watch
 pub fn begin(plan: &[u8]) -> Begun
     ensures { Begins result plan.now }
 {
-    match bytes::parse(plan) {
-        Ok(p) => Begun {
-            refused: None,
-            watch: fresh(p),
-        },
-        Err(refusal) => Begun {
-            refused: Some(refusal),
-            watch: fresh(Plan {
-                threads: 0,
-                sections: 0,
-                bases: [0u8; 16],
-                needs: [0u16; 16],
-            }),
-        },
+    let parsed = bytes::parse(plan);
+    Begun {
+        refused: parsed.err(),
+        watch: fresh(parsed.unwrap_or(NO_PLAN)),
     }
 }
 

@@ -42,7 +42,12 @@ pub(crate) fn bases_pass(threads: usize, bases: [u8; 16]) -> bool
     requires { threads ≤ 16 }
     ensures { result ≡ all is_priority (in_use threads bases) }
 {
-    bases[..threads].iter().all(|base| is_priority(*base))
+    for t in 0..threads {
+        if !is_priority(bases[t]) {
+            return false;
+        }
+    }
+    true
 }
 
 // 4: Is every needs bit at S or above zero?
@@ -50,9 +55,12 @@ pub(crate) fn needs_pass(threads: usize, sections: usize, needs: [u16; 16]) -> b
     requires { (threads ≤ 16) × (sections ≤ 16) }
     ensures { result ≡ all (needs_within sections) (in_use threads needs) }
 {
-    needs[..threads]
-        .iter()
-        .all(|needs| needs_within(sections, *needs))
+    for t in 0..threads {
+        if !needs_within(sections, needs[t]) {
+            return false;
+        }
+    }
+    true
 }
 
 // Whether all sixteen entries are priorities, those past the last thread too: asked at once, without an early end.
