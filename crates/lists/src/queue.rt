@@ -112,11 +112,11 @@ impl Queue {
         let mut who: u8 = 255;
         let mut top: u8 = 0;
         for t in self.iter() {
-            let c = if owner == t {
-                raised
-            } else {
-                bases[t as usize]
-            };
+            // Read first and then replaced: an `if` of two values becomes a branch, which is often guessed wrong among many threads.
+            let mut c = bases[t as usize];
+            if owner == t {
+                c = raised;
+            }
             if top < c {
                 who = t;
                 top = c;

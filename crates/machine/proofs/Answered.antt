@@ -35,15 +35,6 @@ pub some_of : (r : Result Unit Rule) → is_ok r ≡ false → answer_number r �
 some_of (Ok u) e n = absurd cc
 some_of (Err r) e n = numbered r n
 
-pub ok_of : (r : Result Unit Rule) → answer_number r ≡ 0 → is_ok r ≡ true
-ok_of (Ok u) e = refl
-ok_of (Err r) e = absurd (numbered r e)
-
 pub err_of : (r : Result Unit Rule) → answer_number r ≢ 0 → is_ok r ≡ false
 err_of (Ok u) d = absurd (d refl)
 err_of (Err r) d = refl
-
--- there is one that names none
-pub is_fine : (r : Result Unit Rule) → is_ok r ≡ true → r ≡ Ok tt
-is_fine (Ok tt) e = refl
-is_fine (Err r) e = absurd cc

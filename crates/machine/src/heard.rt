@@ -35,8 +35,6 @@ impl Reporting {
 
     // Such a record, by its kind and operand: outside its place it breaks 31; a call breaks 21, and a report is the first due or breaks 29 or 30. A
     // Switch given names the thread reported.
-    // Out of line the machine is copied in and out for each record that is heard.
-    #[inline(always)]
     pub fn heard(self, kind: u8, operand: u16) -> Reporting
         requires { Hearing self kind }
         ensures { Hears result self kind operand }

@@ -105,8 +105,6 @@ impl Reporting {
     }
 
     // What a call other than Tick hands back: its reports, and behind them a Switch where it lets another thread run than the one reported.
-    // Out of line the machine is copied in and out for each call.
-    #[inline(always)]
     pub(crate) fn settled(
         self,
         machine: Machine,

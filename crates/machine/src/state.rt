@@ -96,8 +96,6 @@ impl State {
 
 impl Reporting {
     // As it is lent: a Switch that is due stands in the array behind the other reports.
-    // Out of line the machine is copied once more where a walk ends.
-    #[inline(always)]
     pub fn closed(self) -> State
         requires { Apart self }
         ensures { Closes result self }
