@@ -15,12 +15,11 @@ pub struct Queue {
     pub count: usize,
 }
 
-// A thread's current priority, where the owner is known (255: nobody) and the greatest base among the waits.
-fn current(bases: [u8; 16], owner: u8, urgency: u8, thread: u8) -> u8
-    requires { thread < 16 }
-    ensures { result ≡ current_in (entry_of bases) owner urgency thread }
+// A thread's current priority by its base, where the owner is known (255: nobody) and the greatest base among the waits. Given all bases it would
+// copy them for each thread of a walk.
+fn current(base: u8, owner: u8, urgency: u8, thread: u8) -> u8
+    ensures { result ≡ current_in (λ t. base) owner urgency thread }
 {
-    let base = bases[thread as usize];
     if owner == thread {
         base.max(urgency)
     } else {
@@ -105,7 +104,7 @@ impl Queue {
     {
         // The owner's is asked once, before the walk: asked at each thread, it costs a tenth more instructions among sixteen threads.
         let raised = if owner < 16 {
-            current(bases, owner, urgency, owner)
+            current(bases[owner as usize], owner, urgency, owner)
         } else {
             0
         };
@@ -130,9 +129,8 @@ impl Queue {
         requires { (self.count ≤ 16) × (thread < 16) }
         ensures { result ≡ any (λ t. not (eqb t thread) && eqb (current_in (entry_of bases) owner urgency t) (current_in (entry_of bases) owner urgency thread)) (queued self) }
     {
-        let c = current(bases, owner, urgency, thread);
-        self.iter()
-            .any(|t| t != thread && current(bases, owner, urgency, t) == c)
+        let c = current(bases[thread as usize], owner, urgency, thread);
+        self.iter().any(|t| t != thread && current(bases[t as usize], owner, urgency, t) == c)
     }
 
     // Whether each is the number of a thread.
